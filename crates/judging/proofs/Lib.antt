@@ -1,0 +1,7 @@
+mod Binding
+mod Coded
+mod Counting
+mod Joins
+mod Piling
+mod Halving
+mod Seeks

@@ -1,0 +1,13 @@
+pub mod asking;
+pub mod combine;
+pub mod known;
+pub mod occurrence;
+pub mod seeking;
+pub mod slots;
+pub mod stack;
+pub mod sweep;
+pub mod tally;
+pub mod term;
+pub mod testing;
+pub mod windows;
+pub mod working;

@@ -1,0 +1,3 @@
+mod Lowest
+mod Taken
+mod Holding

@@ -1,0 +1,126 @@
+-- The bytes of an image: the events of a log, as they are stored. Numbers have the lowest byte first.
+use mathlib.Core.Path.{_≡_}
+use mathlib.Core.Bool.{Bool, true, false, cond, _&&_, _||_}
+use mathlib.Core.List.{List, [], _∷_, map}
+use Prim.Native.Nat.{ℕ, zero, suc, _+_, _*_, _≤_}
+use lib.Dec.{leb, eqb}
+use lib.ListN.{length, getD}
+use lib.IntN.{ℤ}
+use mir.Val.{toZ}
+use mir.Syntax.{w32}
+use Rattle.std.specs.Iters.{counting}
+use Rattle.std.specs.declared.option.Option.{Option}
+use Rattle.std.specs.declared.option.Option.the-variants.{Some, None}
+use Rattle.logs.specs.declared.event.Event.{Event}
+use Rattle.logs.specs.declared.event.Value.{Value}
+use Rattle.logs.specs.declared.event.Value.the-variants.{Unread, Read}
+use Rattle.logs.specs.Events.{inBounds}
+
+abbrev pub byte : List ℕ → ℕ → ℕ
+byte bs i = getD bs i 0
+
+-- the number in two bytes, in four, and in four with a sign
+abbrev pub two : List ℕ → ℕ → ℕ
+two bs i = byte bs i + byte bs (i + 1) * 256
+
+abbrev pub four : List ℕ → ℕ → ℕ
+four bs i = byte bs i + byte bs (i + 1) * 256 + byte bs (i + 2) * 65536 + byte bs (i + 3) * 16777216
+
+abbrev pub signed : List ℕ → ℕ → ℤ
+signed bs i = toZ w32 (four bs i)
+
+-- an image begins with how many events it has, and how wide the body of each is
+abbrev pub eventCount : List ℕ → ℕ
+eventCount bs = two bs 0
+
+abbrev pub bodyWidth : ℕ
+bodyWidth = 28
+
+-- those four bytes, a time of four bytes for each event, then a body for each
+abbrev pub sized : List ℕ → Bool
+sized bs = leb 4 (length bs) && (eqb (two bs 2) bodyWidth && eqb (length bs) (4 + 32 * eventCount bs))
+
+-- the same, as facts
+pub record Sizes (bs : List ℕ) : Type 0 where
+  pub head : 4 ≤ length bs
+  pub width : two bs 2 ≡ bodyWidth
+  pub whole : length bs ≡ 4 + 32 * eventCount bs
+
+-- where the time of event i is, where its body is if there are n, and where the slot k of a body is
+abbrev pub timePlace : ℕ → ℕ
+timePlace i = 4 + 4 * i
+
+abbrev pub bodyPlace : (n i : ℕ) → ℕ
+bodyPlace n i = 4 + 4 * n + 28 * i
+
+abbrev pub slotPlace : (body k : ℕ) → ℕ
+slotPlace body k = body + 4 + 6 * k
+
+-- a slot: a code, whether it is read, and its number
+abbrev pub slotAt : List ℕ → (place : ℕ) → Value
+slotAt bs p = cond (eqb (byte bs (p + 1)) 1) (Read (byte bs p) (signed bs (p + 2))) (Unread (byte bs p))
+
+-- it is read, or neither its state nor its number says anything
+abbrev pub slotLaid : List ℕ → (place : ℕ) → Bool
+slotLaid bs p = eqb (byte bs (p + 1)) 1 || (eqb (byte bs (p + 1)) 0 && eqb (four bs (p + 2)) 0)
+
+-- a body: a name, a count, two zero bytes, then four slots
+abbrev pub slotsAt : List ℕ → (body : ℕ) → List Value
+slotsAt bs b = slotAt bs (slotPlace b 0) ∷ slotAt bs (slotPlace b 1) ∷ slotAt bs (slotPlace b 2) ∷ slotAt bs (slotPlace b 3) ∷ []
+
+abbrev pub bodyLaid : List ℕ → (body : ℕ) → Bool
+bodyLaid bs b =
+    eqb (two bs (b + 2)) 0
+    && (slotLaid bs (slotPlace b 0) && (slotLaid bs (slotPlace b 1) && (slotLaid bs (slotPlace b 2) && slotLaid bs (slotPlace b 3))))
+
+abbrev pub timeHeld : List ℕ → ℕ → ℕ
+timeHeld bs i = four bs (timePlace i)
+
+-- the event i of n that the bytes hold
+abbrev pub heldAt : List ℕ → (n i : ℕ) → Event
+heldAt bs n i = record {
+  time = timeHeld bs i;
+  name = byte bs (bodyPlace n i);
+  count = byte bs (bodyPlace n i + 1);
+  slots = slotsAt bs (bodyPlace n i);
+}
+
+-- the time of the event before
+abbrev pub formerTime : List ℕ → ℕ → ℕ
+formerTime bs zero = 0
+formerTime bs (suc i) = timeHeld bs i
+
+-- an event that is well laid, within its bounds, and not before the former
+abbrev pub goodAt : List ℕ → (n i : ℕ) → Bool
+goodAt bs n i = bodyLaid bs (bodyPlace n i) && (inBounds (heldAt bs n i) && leb (formerTime bs i) (timeHeld bs i))
+
+-- the lowest bad event among `left` from event i on
+abbrev pub lowestBad : List ℕ → (n i left : ℕ) → Option ℕ
+lowestBad bs n i zero = None
+lowestBad bs n i (suc left) = cond (goodAt bs n i) (lowestBad bs n (i + 1) left) (Some i)
+
+-- what stands for wrong sizes
+abbrev pub wrongSizes : ℕ
+wrongSizes = 65535
+
+-- where bytes break the layout, if they do
+abbrev pub imageBroken : List ℕ → Option ℕ
+imageBroken bs = cond (sized bs) (lowestBad bs (eventCount bs) 0 (eventCount bs)) (Some wrongSizes)
+
+abbrev pub eventsIn : List ℕ → List Event
+eventsIn bs = map (heldAt bs (eventCount bs)) (counting 0 (eventCount bs))
+
+abbrev pub unlessBroken : Option ℕ → List Event → List Event
+unlessBroken None es = es
+unlessBroken (Some i) es = []
+
+-- what an image means: the events that its bytes hold, or none if it is broken
+abbrev pub imageEvents : List ℕ → List Event
+imageEvents bs = unlessBroken (imageBroken bs) (eventsIn bs)
+
+-- whether two answers are the same
+abbrev pub sameBad : Option ℕ → Option ℕ → Bool
+sameBad None None = true
+sameBad None (Some j) = false
+sameBad (Some i) None = false
+sameBad (Some i) (Some j) = eqb i j

@@ -1,0 +1,14 @@
+pub mod Trees
+pub mod Forest
+pub mod Limits
+pub mod Decoded
+pub mod Encoded
+pub mod Wanted
+pub mod Reach
+pub mod Scoped
+pub mod Reading
+pub mod Layout
+pub mod Written
+pub mod Exact
+pub mod Lawful
+pub mod Sheets
