@@ -58,7 +58,7 @@ module _ (n : ℕ) where
       let w : eqb (t .«open») 0 ≡ false = ne-eqb _ _ (λ e. omega arith) in
       rw (x, y, z, u, w)
 
-count-few : {A : Type 0} (p : A → Bool) (xs : List A) → count p xs ≤ length xs
+pub count-few : {A : Type 0} (p : A → Bool) (xs : List A) → count p xs ≤ length xs
 count-few p [] = omega arith
 count-few p (x ∷ xs) = go (p x) (count-few p xs)
   where

@@ -1,7 +1,11 @@
 mod Binding
 mod Coded
 mod Counting
+mod Endings
+mod Folding
 mod Joins
 mod Piling
 mod Halving
 mod Seeks
+mod Sweeps
+mod Turns

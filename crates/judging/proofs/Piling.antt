@@ -30,3 +30,6 @@ has-room used slots h = ap (λ n. ltb n (length slots)) (pile-size used slots (o
 
 pub no-room : {T : Type 0} (used : ℕ) (slots : List T) → used ≤ length slots → length slots ≤ used → ltb (length (pile used slots)) (length slots) ≡ false
 no-room used slots f h = ap (λ n. ltb n (length slots)) (pile-size used slots f) ∙ le-ltb _ _ h
+
+pub with-room : {T : Type 0} (n : ℕ) (x : T) (xs : List T) → length xs < n → withItem n x xs ≡ x ∷ xs
+with-room n x xs h = ap (λ b. cond b (x ∷ xs) xs) (lt-ltb _ _ h)

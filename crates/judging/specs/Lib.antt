@@ -1,6 +1,8 @@
 pub mod Answers
 pub mod Asking
 pub mod Bindings
+pub mod Extents
+pub mod Machine
 pub mod Seeking
 pub mod Slots
 pub mod Stacks

@@ -1,6 +1,8 @@
 pub mod asking;
 pub mod combine;
+pub mod extents;
 pub mod known;
+pub mod machine;
 pub mod occurrence;
 pub mod seeking;
 pub mod slots;

@@ -2,27 +2,27 @@
 use mathlib.Core.Path.{_≡_, refl, sym, ap, subst, _∙_}
 use mathlib.Core.Bool.{Bool, true, false, cond, _&&_, _||_}
 use mathlib.Core.List.{List, [], _∷_}
+use mathlib.Core.Logic.{⊎-elim}
 use Prim.Native.Nat.{ℕ, zero, suc, _+_, _-_, _*_, _^_, _≤_, _<_}
 use native.Mathlib.Nat.{add-zero, zero-add}
 use native.Mathlib.Numerals.{add-one}
 use native.Mathlib.Omega.{arith}
-use lib.Dec.{leb, ltb, eqb}
-use lib.IntN.{ℤ, pos, negsuc}
+use lib.Dec.{ltb, eqb}
+use lib.IntN.{pos, negsuc}
 use lib.ListN.{length, getD}
 use mir.Syntax.{w32}
 use mir.Val.{sel, toZ}
 use Rattle.std.proofs.shelf.Lists.{ext-getD}
-use Rattle.std.proofs.shelf.Tests.{and-parts, and-from, or-left, or-right, cond-true, cond-false, eq-eqb, eqb-true, le-leb}
-use Rattle.std.specs.declared.option.Option.{Option}
+use Rattle.std.proofs.shelf.Tests.{both-ways, cases-eq, and-parts, and-from, or-left, or-right, cond-true, cond-false, eq-eqb, eqb-true, le-leb}
 use Rattle.std.specs.declared.option.Option.the-variants.{Some, None}
 use Rattle.logs.specs.declared.event.Event.{Event}
 use Rattle.logs.specs.declared.event.Value.{Value}
 use Rattle.logs.specs.declared.event.Value.the-variants.{Unread, Read}
-use Rattle.logs.specs.Events.{codeOf, empty, slotCount, blank, inBounds, eventAt}
-use Rattle.logs.specs.Lawful.{NeverFalls, allInBounds, timeAt}
-use Rattle.logs.specs.Image.{byte, two, four, signed, sized, eventCount, bodyWidth, bodyPlace, slotPlace, slotAt, slotLaid, slotsAt, bodyLaid, timeHeld, formerTime, heldAt, goodAt, lowestBad, wrongSizes, imageBroken, eventsIn, imageEvents}
-use Rattle.logs.specs.ImageLaws.{unbroken-sizes, unbroken-good, length-in, event-in, in-order, in-bounds}
-use Rattle.logs.specs.Exact.{stateOf, numberOf, HoldsValue, HoldsBody, Holds, HoldsLog, Exact}
+use Rattle.logs.specs.Events.{empty, slotCount, blank, inBounds, eventAt}
+use Rattle.logs.specs.Lawful.{allInBounds, timeAt}
+use Rattle.logs.specs.Image.{Sizes, byte, two, four, signed, sized, eventCount, bodyWidth, bodyPlace, slotPlace, slotAt, slotLaid, slotsAt, bodyLaid, timeHeld, formerTime, heldAt, goodAt, lowestBad, wrongSizes, imageBroken, firstEvents, eventsIn, imageEvents}
+use Rattle.logs.specs.ImageLaws.{unbroken-sizes, unbroken-good, sizes-from, Good, good-parts, length-first, event-first, first-ordered, first-inside}
+use Rattle.logs.specs.Exact.{HoldsValue, HoldsBody, HoldsEvents, Holds, InOrder, Begins, Lowest, Exact}
 use Rattle.logs.proofs.Taken.{events-taken}
 
 zero-from : (n : ℕ) → toZ w32 n ≡ pos 0 → n ≡ 0
@@ -120,64 +120,129 @@ inside-at [] h i l = absurd (omega arith)
 inside-at (e ∷ es) h zero l = and-parts (inBounds e) (allInBounds es) h .0
 inside-at (e ∷ es) h (suc i) l = inside-at es (and-parts (inBounds e) (allInBounds es) h .1) i (omega arith)
 
+-- no event is bad, or one is, and none before it
 all-good : (bs : List ℕ) (n i left : ℕ) → ((j : ℕ) → j < left → goodAt bs n (i + j) ≡ true) → lowestBad bs n i left ≡ None
 all-good bs n i zero h = refl
 all-good bs n i (suc left) h =
     cond-true _ _ _ (subst (λ k. goodAt bs n k ≡ true) (add-zero i) (h 0 (omega arith)))
     ∙ all-good bs n (i + 1) left (λ j l. let same : i + suc j ≡ i + 1 + j = omega arith in subst (λ k. goodAt bs n k ≡ true) same (h (suc j) (omega arith)))
 
--- bytes that hold a log are taken
-module _ (bs : List ℕ) (es : List Event) (h : HoldsLog bs es) where
-  body-at : (i : ℕ) → i < length es → HoldsBody bs (bodyPlace (eventCount bs) i) (eventAt es i)
-  body-at i l = subst (λ n. HoldsBody bs (bodyPlace n i) (eventAt es i)) (sym (h .held .count)) (h .held .bodies i l)
+record FirstBad (bs : List ℕ) (n i left k : ℕ) : Type 0 where
+  from : i ≤ k
+  below : k < i + left
+  before : (j : ℕ) → i ≤ j → j < k → goodAt bs n j ≡ true
+  bad : goodAt bs n k ≡ false
 
-  event-is : (i : ℕ) → i < length es → heldAt bs (eventCount bs) i ≡ eventAt es i
+one-bad : (bs : List ℕ) (n i left k : ℕ) → lowestBad bs n i left ≡ Some k → FirstBad bs n i left k
+one-bad bs n i zero k e = let z : _≡_ {A = ℕ} 0 1 = cc in absurd (omega arith)
+one-bad bs n i (suc left) k e = go (one-bad bs n (i + 1) left k) (goodAt bs n i) refl e
+  where
+    go : (lowestBad bs n (i + 1) left ≡ Some k → FirstBad bs n (i + 1) left k) → (b : Bool) → goodAt bs n i ≡ b → cond b (lowestBad bs n (i + 1) left) (Some i) ≡ Some k → FirstBad bs n i (suc left) k
+    go more true g h =
+        let f = more h in
+        record {
+          from = omega (arith, f .from);
+          below = omega (arith, f .below);
+          before = λ j low less.
+              ⊎-elim (λ (same : i ≡ j). subst (λ m. goodAt bs n m ≡ true) same g) (λ (other : i ≡ j → ⊥). f .before j (omega arith) less) (cases-eq i j);
+          bad = f .bad;
+        }
+    go more false g h =
+        let same : i ≡ k = cc in
+        record { from = omega arith; below = omega arith; before = λ j low less. absurd (omega arith); bad = subst (λ m. goodAt bs n m ≡ false) same g }
+
+-- events of a log that the bytes hold first are good
+module _ (bs : List ℕ) (n : ℕ) (es : List Event) (h : HoldsEvents bs n es) (o : InOrder es) where
+  pub event-is : (i : ℕ) → i < length es → heldAt bs n i ≡ eventAt es i
   event-is i l =
-      let b = body-at i l in
-      event-same (timeHeld bs i) _ _ _ (eventAt es i) (h .held .times i l) (b .name) (b .count) (body-slots bs (bodyPlace (eventCount bs) i) (eventAt es i) b)
+      let b = h .bodies i l in
+      event-same (timeHeld bs i) _ _ _ (eventAt es i) (h .times i l) (b .name) (b .count) (body-slots bs (bodyPlace n i) (eventAt es i) b)
 
   later : (i : ℕ) → i < length es → formerTime bs i ≤ timeHeld bs i
   later zero l = omega arith
   later (suc i) l =
-      let next : timeAt es i ≤ timeAt es (suc i) = subst (λ k. timeAt es i ≤ timeAt es k) (add-one i) (h .ordered i (omega arith)) in
-      omega (arith, h .held .times i (omega arith), h .held .times (suc i) l)
+      let next : timeAt es i ≤ timeAt es (suc i) = subst (λ k. timeAt es i ≤ timeAt es k) (add-one i) (o .ordered i (omega arith)) in
+      omega (arith, h .times i (omega arith), h .times (suc i) l)
 
-  good : (i : ℕ) → i < length es → goodAt bs (eventCount bs) i ≡ true
-  good i l =
-      and-from _ _ (body-laid bs (bodyPlace (eventCount bs) i) (eventAt es i) (body-at i l))
-      (and-from _ _ (ap inBounds (event-is i l) ∙ inside-at es (h .inside) i l) (le-leb _ _ (later i l)))
+  pub good-at : (i : ℕ) → i < length es → goodAt bs n i ≡ true
+  good-at i l =
+      and-from _ _ (body-laid bs (bodyPlace n i) (eventAt es i) (h .bodies i l))
+      (and-from _ _ (ap inBounds (event-is i l) ∙ inside-at es (o .inside) i l) (le-leb _ _ (later i l)))
 
-  well-sized : sized bs ≡ true
-  well-sized =
-      let whole : length bs ≡ 4 + 32 * eventCount bs = omega (arith, h .held .whole, h .held .count) in
-      and-from _ _ (le-leb 4 (length bs) (omega arith)) (and-from _ _ (eq-eqb (two bs 2) bodyWidth (h .held .width)) (eq-eqb (length bs) (4 + 32 * eventCount bs) whole))
+-- good events that come first are events of a log, which the bytes hold
+module _ (bs : List ℕ) (n m : ℕ) (good : (i : ℕ) → i < m → Good bs n i) where
+  pub first-held : HoldsEvents bs n (firstEvents bs n m)
+  first-held = record {
+    times = λ i l. sym (ap (λ e. e .time) (event-first bs n m i (omega (arith, length-first bs n m))));
+    bodies = λ i l.
+        let less : i < m = omega (arith, length-first bs n m) in
+        subst (HoldsBody bs (bodyPlace n i)) (sym (event-first bs n m i less)) (body-held bs (bodyPlace n i) (timeHeld bs i) (good i less .laid));
+  }
+
+  pub first-in-order : InOrder (firstEvents bs n m)
+  first-in-order = record { inside = first-inside bs n m good; ordered = first-ordered bs n m good }
+
+  pub first-begins : n ≡ eventCount bs → Begins bs m (firstEvents bs n m)
+  first-begins e = record { long = length-first bs n m; held = subst (λ k. HoldsEvents bs k (firstEvents bs n m)) e first-held; inOrder = first-in-order }
+
+sized-from : (bs : List ℕ) → Sizes bs → sized bs ≡ true
+sized-from bs s =
+    and-from _ _ (le-leb 4 (length bs) (s .head)) (and-from _ _ (eq-eqb (two bs 2) bodyWidth (s .width)) (eq-eqb (length bs) (4 + 32 * eventCount bs) (s .whole)))
+
+-- bytes that hold the events of a log are taken
+module _ (bs : List ℕ) (es : List Event) (h : Holds bs es) (o : InOrder es) where
+  held : HoldsEvents bs (eventCount bs) es
+  held = subst (λ n. HoldsEvents bs n es) (sym (h .count)) (h .events)
 
   unbroken : imageBroken bs ≡ None
   unbroken =
-      cond-true _ _ _ well-sized
-      ∙ all-good bs (eventCount bs) 0 (eventCount bs) (λ j l. subst (λ k. goodAt bs (eventCount bs) k ≡ true) (sym (zero-add j)) (good j (omega (arith, h .held .count))))
+      let whole : length bs ≡ 4 + 32 * eventCount bs = omega (arith, h .whole, h .count) in
+      cond-true _ _ _ (sized-from bs (record { head = omega arith; width = h .width; whole = whole }))
+      ∙ all-good bs (eventCount bs) 0 (eventCount bs) (λ j l. subst (λ k. goodAt bs (eventCount bs) k ≡ true) (sym (zero-add j)) (good-at bs (eventCount bs) es held o j (omega (arith, h .count))))
 
   means : imageEvents bs ≡ es
   means =
+      let n = eventCount bs in
+      let long : length (eventsIn bs) ≡ length es = length-first bs n n ∙ h .count in
       events-taken bs unbroken
-      ∙ ext-getD blank (eventsIn bs) es (length-in bs ∙ h .held .count) (λ i l. event-in bs i (omega (arith, length-in bs)) ∙ event-is i (omega (arith, length-in bs, h .held .count)))
+      ∙ ext-getD blank (eventsIn bs) es long (λ i l. event-first bs n n i (omega (arith, length-first bs n n)) ∙ event-is bs n es held o i (omega (arith, long)))
 
--- what is taken holds a log
+-- what is taken holds the events of a log
 module _ (bs : List ℕ) (e : imageBroken bs ≡ None) where
-  held : Holds bs (eventsIn bs)
-  held = record {
-    count = sym (length-in bs);
-    width = unbroken-sizes bs e .width;
-    whole = unbroken-sizes bs e .whole ∙ ap (λ n. 4 + 32 * n) (sym (length-in bs));
-    times = λ i l. sym (ap (λ v. v .time) (event-in bs i (omega (arith, length-in bs))));
-    bodies = λ i l.
-        let less : i < eventCount bs = omega (arith, length-in bs) in
-        subst (λ n. HoldsBody bs (bodyPlace n i) (eventAt (eventsIn bs) i)) (sym (length-in bs))
-        (subst (HoldsBody bs (bodyPlace (eventCount bs) i)) (sym (event-in bs i less)) (body-held bs (bodyPlace (eventCount bs) i) (timeHeld bs i) (unbroken-good bs e i less .laid)));
-  }
+  all-held : Holds bs (eventsIn bs)
+  all-held =
+      let n = eventCount bs in
+      let long = length-first bs n n in
+      record {
+        count = sym long;
+        width = unbroken-sizes bs e .width;
+        whole = unbroken-sizes bs e .whole ∙ ap (λ k. 4 + 32 * k) (sym long);
+        events = subst (λ k. HoldsEvents bs k (eventsIn bs)) (sym long) (first-held bs n n (unbroken-good bs e));
+      }
 
-  only-logs : HoldsLog bs (imageEvents bs)
-  only-logs = subst (HoldsLog bs) (sym (events-taken bs e)) (record { held = held; inside = in-bounds bs e; ordered = in-order bs e })
+  only-logs : Holds bs (imageEvents bs) × InOrder (imageEvents bs)
+  only-logs = (
+    subst (Holds bs) (sym (events-taken bs e)) all-held,
+    subst InOrder (sym (events-taken bs e)) (first-in-order bs (eventCount bs) (eventCount bs) (unbroken-good bs e)),
+  )
+
+-- what is refused is refused with the lowest bad event
+lowest-refused : (bs : List ℕ) (i : ℕ) → Sizes bs → imageBroken bs ≡ Some i → Lowest bs i
+lowest-refused bs i s e =
+    let n = eventCount bs in
+    let f = one-bad bs n 0 n i (sym (cond-true _ _ _ (sized-from bs s)) ∙ e) in
+    record {
+      within = omega (arith, f .below);
+      before = (firstEvents bs n i, first-begins bs n i (λ j l. good-parts bs n j (f .before j (omega arith) l)) refl);
+      bad = λ es b. both-ways (goodAt bs n i) (f .bad) (good-at bs n es (b .held) (b .inOrder) i (omega (arith, b .long)));
+    }
+
+wrong-sizes : (bs : List ℕ) → (Sizes bs → ⊥) → imageBroken bs ≡ Some wrongSizes
+wrong-sizes bs h = go (sized bs) refl
+  where
+    go : (b : Bool) → sized bs ≡ b → cond b (lowestBad bs (eventCount bs) 0 (eventCount bs)) (Some wrongSizes) ≡ Some wrongSizes
+    go true t = absurd (h (sizes-from bs t))
+    go false t = refl
 
 pub exact-stands : Exact
-exact-stands = record { taken = λ bs es h. (unbroken bs es h, means bs es h); only = only-logs }
+exact-stands = record { taken = λ bs es h o. (unbroken bs es h o, means bs es h o); only = only-logs; refused = lowest-refused; wrong = wrong-sizes }

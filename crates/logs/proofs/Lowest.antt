@@ -1,16 +1,13 @@
 -- The search for the lowest bad event, step by step.
-use mathlib.Core.Path.{_≡_, refl, sym, ap, _∙_}
-use mathlib.Core.Bool.{Bool, true, false, cond, _&&_}
+use mathlib.Core.Path.{_≡_, ap, _∙_}
+use mathlib.Core.Bool.{Bool, true, false, cond}
 use mathlib.Core.List.{List}
-use Prim.Native.Nat.{ℕ, zero, suc, _+_, _-_, _≤_, _<_}
+use Prim.Native.Nat.{ℕ, suc, _+_, _-_, _≤_, _<_}
 use native.Mathlib.Omega.{arith}
-use lib.Dec.{leb}
 use Rattle.std.proofs.shelf.Tests.{cond-true, cond-false}
-use Rattle.std.specs.declared.option.Option.{Option}
 use Rattle.std.specs.declared.option.Option.the-variants.{Some, None}
 use Rattle.logs.specs.declared.event.Event.{Event}
-use Rattle.logs.specs.Events.{inBounds}
-use Rattle.logs.specs.Image.{bodyPlace, bodyLaid, heldAt, formerTime, goodAt, lowestBad}
+use Rattle.logs.specs.Image.{bodyPlace, heldAt, formerTime, goodEvent, goodAt, lowestBad}
 
 module _ (bs : List ℕ) (n i : ℕ) where
   step : i < n → lowestBad bs n i (n - i) ≡ cond (goodAt bs n i) (lowestBad bs n (i + 1) (n - (i + 1))) (Some i)
@@ -25,9 +22,6 @@ module _ (bs : List ℕ) (n i : ℕ) where
   pub lowest-past : n ≤ i → lowestBad bs n i (n - i) ≡ None
   lowest-past h = let none : n - i ≡ 0 = omega arith in ap (lowestBad bs n i) none
 
-  -- what the code looks at is what it is for an event to be good
-  pub good-is : (event : Event) (body former : ℕ) → event ≡ heldAt bs n i → body ≡ bodyPlace n i → former ≡ formerTime bs i → (bodyLaid bs body && (inBounds event && leb former (event .time))) ≡ goodAt bs n i
-  good-is event body former event-is body-is former-is =
-      ap (λ b. bodyLaid bs b && (inBounds event && leb former (event .time))) body-is
-      ∙ (ap (λ t. bodyLaid bs (bodyPlace n i) && (inBounds event && leb t (event .time))) former-is
-      ∙ ap (λ (e : Event). bodyLaid bs (bodyPlace n i) && (inBounds e && leb (formerTime bs i) (e .time))) event-is)
+  -- an event that the code finds good or bad is so
+  pub good-is : {event : Event} {body former : ℕ} {r b : Bool} → event ≡ heldAt bs n i → body ≡ bodyPlace n i → former ≡ formerTime bs i → r ≡ goodEvent bs body former event → r ≡ b → goodAt bs n i ≡ b
+  good-is event-is body-is former-is found r-is = cc

@@ -1,8 +1,8 @@
 -- An image that is taken, or refused, as a log.
-use mathlib.Core.Path.{_≡_, refl, sym, ap, subst, _∙_}
+use mathlib.Core.Path.{_≡_, refl, sym, ap, _∙_}
 use mathlib.Core.Bool.{true}
 use mathlib.Core.List.{List}
-use Prim.Native.Nat.{ℕ, _+_, _*_, _≤_, _<_}
+use Prim.Native.Nat.{ℕ, _+_, _*_, _<_}
 use native.Mathlib.Omega.{arith}
 use lib.ListN.{length}
 use Rattle.std.specs.Finite.{nth}
@@ -12,7 +12,7 @@ use Rattle.std.specs.declared.option.Option.{Option}
 use Rattle.std.specs.declared.option.Option.the-variants.{Some, None}
 use Rattle.logs.specs.Events.{blank}
 use Rattle.logs.specs.Image.{eventCount, heldAt, imageBroken, eventsIn, unlessBroken, imageEvents, sameBad}
-use Rattle.logs.specs.ImageLaws.{unbroken-sizes, length-in, event-in}
+use Rattle.logs.specs.ImageLaws.{unbroken-sizes, length-first, event-first}
 
 pub same-self : (o p : Option ℕ) → o ≡ p → sameBad o p ≡ true
 same-self o p e = ap (sameBad o) (sym e) ∙ go o
@@ -26,10 +26,7 @@ module _ (bs : List ℕ) where
   events-taken e = ap (λ o. unlessBroken o (eventsIn bs)) e
 
   pub count-taken : imageBroken bs ≡ None → length (imageEvents bs) ≡ eventCount bs
-  count-taken e = ap length (events-taken e) ∙ length-in bs
-
-  pub count-refused : (i : ℕ) → imageBroken bs ≡ Some i → length (imageEvents bs) ≡ 0
-  count-refused i e = ap (λ o. length (unlessBroken o (eventsIn bs))) e
+  count-taken e = ap length (events-taken e) ∙ length-first bs (eventCount bs) (eventCount bs)
 
   some-taken : (o : Option ℕ) → 0 < length (unlessBroken o (eventsIn bs)) → o ≡ None
   some-taken None h = refl
@@ -48,6 +45,6 @@ module _ (bs : List ℕ) where
 
     pub event-there : nth (imageEvents bs) place ≡ Some (heldAt bs count place)
     event-there =
-        let within : place < length (eventsIn bs) = omega (arith, all, length-in bs) in
+        let within : place < length (eventsIn bs) = omega (arith, all, length-first bs (eventCount bs) (eventCount bs)) in
         ap (λ es. nth es place) (events-taken taken)
-        ∙ (nth-getD (eventsIn bs) place blank within ∙ ap Some (event-in bs place (omega (arith, all)) ∙ ap (λ n. heldAt bs n place) (sym all)))
+        ∙ (nth-getD (eventsIn bs) place blank within ∙ ap Some (event-first bs (eventCount bs) (eventCount bs) place (omega (arith, all)) ∙ ap (λ n. heldAt bs n place) (sym all)))

@@ -2,16 +2,16 @@
 use mathlib.Core.Path.{_≡_}
 use mathlib.Core.Bool.{true}
 use mathlib.Core.List.{List}
-use Prim.Native.Nat.{ℕ, _+_, _*_, _≤_, _<_}
+use Prim.Native.Nat.{ℕ, _+_, _*_, _<_}
 use lib.IntN.{ℤ, pos}
 use lib.ListN.{length, getD}
-use Rattle.std.specs.declared.option.Option.the-variants.{None}
+use Rattle.std.specs.declared.option.Option.the-variants.{Some, None}
 use Rattle.logs.specs.declared.event.Event.{Event}
 use Rattle.logs.specs.declared.event.Value.{Value}
 use Rattle.logs.specs.declared.event.Value.the-variants.{Unread, Read}
 use Rattle.logs.specs.Events.{codeOf, empty, slotCount, eventAt}
 use Rattle.logs.specs.Lawful.{NeverFalls, allInBounds}
-use Rattle.logs.specs.Image.{byte, two, four, signed, imageBroken, imageEvents}
+use Rattle.logs.specs.Image.{Sizes, byte, two, four, signed, wrongSizes, imageBroken, imageEvents}
 
 -- 1 once a value is read
 abbrev pub stateOf : Value → ℕ
@@ -37,20 +37,39 @@ pub record HoldsBody (bs : List ℕ) (place : ℕ) (e : Event) : Type 0 where
   pub wide : length (e .slots) ≡ slotCount
   pub slots : (k : ℕ) → k < slotCount → HoldsValue bs (place + 4 + 6 * k) (getD (e .slots) k empty)
 
--- the bytes of events: their number, the width of a body, the times, the bodies
+-- the times and the bodies of these events, the first of n
+pub record HoldsEvents (bs : List ℕ) (n : ℕ) (es : List Event) : Type 0 where
+  pub times : (i : ℕ) → i < length es → four bs (4 + 4 * i) ≡ eventAt es i .time
+  pub bodies : (i : ℕ) → i < length es → HoldsBody bs (4 + 4 * n + 28 * i) (eventAt es i)
+
+-- the bytes of these events: how many there are, the width of a body, the times, the bodies, and no more
 pub record Holds (bs : List ℕ) (es : List Event) : Type 0 where
   pub count : two bs 0 ≡ length es
   pub width : two bs 2 ≡ 28
   pub whole : length bs ≡ 4 + 32 * length es
-  pub times : (i : ℕ) → i < length es → four bs (4 + 4 * i) ≡ eventAt es i .time
-  pub bodies : (i : ℕ) → i < length es → HoldsBody bs (4 + 4 * length es + 28 * i) (eventAt es i)
+  pub events : HoldsEvents bs (length es) es
 
--- the bytes of events within their bounds, in the order of their times
-pub record HoldsLog (bs : List ℕ) (es : List Event) : Type 0 where
-  pub held : Holds bs es
+-- events as a log has them: within their bounds, and in the order of their times
+pub record InOrder (es : List Event) : Type 0 where
   pub inside : allInBounds es ≡ true
   pub ordered : NeverFalls es
 
+-- so many events of a log come first
+pub record Begins (bs : List ℕ) (many : ℕ) (es : List Event) : Type 0 where
+  pub long : length es ≡ many
+  pub held : HoldsEvents bs (two bs 0) es
+  pub inOrder : InOrder es
+
+-- the event i is the lowest bad one: i events of a log come first, and not one more
+pub record Lowest (bs : List ℕ) (i : ℕ) : Type 0 where
+  pub within : i < two bs 0
+  pub before : (es : List Event) × Begins bs i es
+  pub bad : (es : List Event) → Begins bs (i + 1) es → ⊥
+
+-- the bytes of a log's events are taken and mean these, and no others are taken;
+-- well sized ones are refused with the lowest bad event, and the others with what stands for wrong sizes
 pub record Exact : Type 0 where
-  pub taken : (bs : List ℕ) (es : List Event) → HoldsLog bs es → (imageBroken bs ≡ None) × (imageEvents bs ≡ es)
-  pub only : (bs : List ℕ) → imageBroken bs ≡ None → HoldsLog bs (imageEvents bs)
+  pub taken : (bs : List ℕ) (es : List Event) → Holds bs es → InOrder es → (imageBroken bs ≡ None) × (imageEvents bs ≡ es)
+  pub only : (bs : List ℕ) → imageBroken bs ≡ None → Holds bs (imageEvents bs) × InOrder (imageEvents bs)
+  pub refused : (bs : List ℕ) (i : ℕ) → Sizes bs → imageBroken bs ≡ Some i → Lowest bs i
+  pub wrong : (bs : List ℕ) → (Sizes bs → ⊥) → imageBroken bs ≡ Some wrongSizes

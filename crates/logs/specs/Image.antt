@@ -56,11 +56,11 @@ bodyPlace n i = 4 + 4 * n + 28 * i
 abbrev pub slotPlace : (body k : ℕ) → ℕ
 slotPlace body k = body + 4 + 6 * k
 
--- a slot: a code, whether it is read, and its number
+-- a slot: a code, a state, which is 1 once it is read, and a number
 abbrev pub slotAt : List ℕ → (place : ℕ) → Value
 slotAt bs p = cond (eqb (byte bs (p + 1)) 1) (Read (byte bs p) (signed bs (p + 2))) (Unread (byte bs p))
 
--- it is read, or neither its state nor its number says anything
+-- its state is 1, or its state and its number are 0
 abbrev pub slotLaid : List ℕ → (place : ℕ) → Bool
 slotLaid bs p = eqb (byte bs (p + 1)) 1 || (eqb (byte bs (p + 1)) 0 && eqb (four bs (p + 2)) 0)
 
@@ -85,14 +85,17 @@ heldAt bs n i = record {
   slots = slotsAt bs (bodyPlace n i);
 }
 
--- the time of the event before
+-- the time of the event before, or 0
 abbrev pub formerTime : List ℕ → ℕ → ℕ
 formerTime bs zero = 0
 formerTime bs (suc i) = timeHeld bs i
 
--- an event that is well laid, within its bounds, and not before the former
+-- an event is good if its body is well laid, it is within its bounds, and its time is not below the former
+abbrev pub goodEvent : List ℕ → (body former : ℕ) → Event → Bool
+goodEvent bs body former e = bodyLaid bs body && (inBounds e && leb former (e .time))
+
 abbrev pub goodAt : List ℕ → (n i : ℕ) → Bool
-goodAt bs n i = bodyLaid bs (bodyPlace n i) && (inBounds (heldAt bs n i) && leb (formerTime bs i) (timeHeld bs i))
+goodAt bs n i = goodEvent bs (bodyPlace n i) (formerTime bs i) (heldAt bs n i)
 
 -- the lowest bad event among `left` from event i on
 abbrev pub lowestBad : List ℕ → (n i left : ℕ) → Option ℕ
@@ -107,8 +110,12 @@ wrongSizes = 65535
 abbrev pub imageBroken : List ℕ → Option ℕ
 imageBroken bs = cond (sized bs) (lowestBad bs (eventCount bs) 0 (eventCount bs)) (Some wrongSizes)
 
+-- the first m events of n, and all of them
+abbrev pub firstEvents : List ℕ → (n m : ℕ) → List Event
+firstEvents bs n m = map (heldAt bs n) (counting 0 m)
+
 abbrev pub eventsIn : List ℕ → List Event
-eventsIn bs = map (heldAt bs (eventCount bs)) (counting 0 (eventCount bs))
+eventsIn bs = firstEvents bs (eventCount bs) (eventCount bs)
 
 abbrev pub unlessBroken : Option ℕ → List Event → List Event
 unlessBroken None es = es
@@ -118,7 +125,7 @@ unlessBroken (Some i) es = []
 abbrev pub imageEvents : List ℕ → List Event
 imageEvents bs = unlessBroken (imageBroken bs) (eventsIn bs)
 
--- whether two answers are the same
+-- whether two findings are the same
 abbrev pub sameBad : Option ℕ → Option ℕ → Bool
 sameBad None None = true
 sameBad None (Some j) = false

@@ -2,12 +2,12 @@
 use mathlib.Core.Path.{_≡_, refl, sym, ap, subst, _∙_}
 use mathlib.Core.Bool.{Bool, true, false, cond, _&&_}
 use mathlib.Core.List.{List, [], _∷_}
-use Prim.Native.Nat.{ℕ, zero, suc, _+_, _-_, _*_, _≤_, _<_}
+use Prim.Native.Nat.{ℕ, zero, suc, _+_, _*_, _≤_, _<_}
 use native.Mathlib.Nat.{add-zero, zero-add}
 use native.Mathlib.Numerals.{add-one}
 use native.Mathlib.Omega.{arith}
 use lib.Dec.{leb, eqb}
-use lib.ListN.{length, getD}
+use lib.ListN.{length}
 use Rattle.std.proofs.shelf.Counted.{length-map-counting, getD-map-counting}
 use Rattle.std.proofs.shelf.Tests.{and-parts, and-from, leb-true, eqb-true}
 use Rattle.std.specs.declared.option.Option.{Option}
@@ -15,7 +15,7 @@ use Rattle.std.specs.declared.option.Option.the-variants.{Some, None}
 use Rattle.logs.specs.declared.event.Event.{Event}
 use Rattle.logs.specs.Events.{inBounds, eventAt, blank}
 use Rattle.logs.specs.Lawful.{Lawful, NeverFalls, allInBounds, timeAt, mostEvents}
-use Rattle.logs.specs.Image.{Sizes, two, sized, bodyWidth, eventCount, bodyPlace, bodyLaid, timeHeld, formerTime, heldAt, goodAt, lowestBad, wrongSizes, imageBroken, eventsIn, unlessBroken, imageEvents}
+use Rattle.logs.specs.Image.{Sizes, two, sized, bodyWidth, eventCount, bodyPlace, bodyLaid, timeHeld, formerTime, heldAt, goodAt, lowestBad, wrongSizes, imageBroken, firstEvents, eventsIn, unlessBroken, imageEvents}
 
 absent : (i : ℕ) → _≡_ {A = Option ℕ} (Some i) None → ⊥
 absent i e = let z : _≡_ {A = ℕ} 0 1 = cc in omega arith
@@ -52,11 +52,14 @@ module _ (bs : List ℕ) where
   by-size true e = (refl, e)
   by-size false e = absurd (absent wrongSizes e)
 
-  pub unbroken-sizes : imageBroken bs ≡ None → Sizes bs
-  unbroken-sizes e =
-      let a = and-parts (leb 4 (length bs)) (eqb (two bs 2) bodyWidth && eqb (length bs) (4 + 32 * eventCount bs)) (by-size (sized bs) e .0) in
+  pub sizes-from : sized bs ≡ true → Sizes bs
+  sizes-from h =
+      let a = and-parts (leb 4 (length bs)) (eqb (two bs 2) bodyWidth && eqb (length bs) (4 + 32 * eventCount bs)) h in
       let b = and-parts (eqb (two bs 2) bodyWidth) (eqb (length bs) (4 + 32 * eventCount bs)) (a .1) in
       record { head = leb-true 4 (length bs) (a .0); width = eqb-true (two bs 2) bodyWidth (b .0); whole = eqb-true (length bs) (4 + 32 * eventCount bs) (b .1) }
+
+  pub unbroken-sizes : imageBroken bs ≡ None → Sizes bs
+  unbroken-sizes e = sizes-from (by-size (sized bs) e .0)
 
   pub unbroken-good : imageBroken bs ≡ None → (i : ℕ) → i < eventCount bs → Good bs (eventCount bs) i
   unbroken-good e i h = good-parts bs (eventCount bs) i (subst (λ j. goodAt bs (eventCount bs) j ≡ true) (zero-add i) (lowest-none (eventCount bs) 0 (eventCount bs) (by-size (sized bs) e .1) i h))
@@ -64,26 +67,33 @@ module _ (bs : List ℕ) where
   pub former-next : (i : ℕ) → formerTime bs (i + 1) ≡ timeHeld bs i
   former-next i = ap (formerTime bs) (add-one i)
 
-  pub length-in : length (eventsIn bs) ≡ eventCount bs
-  length-in = length-map-counting (heldAt bs (eventCount bs)) 0 (eventCount bs)
+  pub length-first : (n m : ℕ) → length (firstEvents bs n m) ≡ m
+  length-first n m = length-map-counting (heldAt bs n) 0 m
 
-  pub event-in : (i : ℕ) → i < eventCount bs → eventAt (eventsIn bs) i ≡ heldAt bs (eventCount bs) i
-  event-in i h = getD-map-counting (heldAt bs (eventCount bs)) 0 (eventCount bs) i i blank h (omega arith)
+  pub event-first : (n m i : ℕ) → i < m → eventAt (firstEvents bs n m) i ≡ heldAt bs n i
+  event-first n m i h = getD-map-counting (heldAt bs n) 0 m i i blank h (omega arith)
 
-  pub in-order : imageBroken bs ≡ None → NeverFalls (eventsIn bs)
-  in-order e k h =
-      let less : k + 1 < eventCount bs = omega (arith, length-in) in
-      let now : timeAt (eventsIn bs) k ≡ timeHeld bs k = ap (λ v. v .time) (event-in k (omega arith)) in
-      let next : timeAt (eventsIn bs) (k + 1) ≡ timeHeld bs (k + 1) = ap (λ v. v .time) (event-in (k + 1) less) in
-      let rises : timeHeld bs k ≤ timeHeld bs (k + 1) = subst (λ t. t ≤ timeHeld bs (k + 1)) (former-next k) (unbroken-good e (k + 1) less .later) in
-      omega arith
+  -- the first m events where each is good
+  module _ (n m : ℕ) (good : (i : ℕ) → i < m → Good bs n i) where
+    pub first-ordered : NeverFalls (firstEvents bs n m)
+    first-ordered k h =
+        let less : k + 1 < m = omega (arith, length-first n m) in
+        let this : timeAt (firstEvents bs n m) k ≡ timeHeld bs k = ap (λ e. e .time) (event-first n m k (omega arith)) in
+        let next : timeAt (firstEvents bs n m) (k + 1) ≡ timeHeld bs (k + 1) = ap (λ e. e .time) (event-first n m (k + 1) less) in
+        let rises : timeHeld bs k ≤ timeHeld bs (k + 1) = subst (λ t. t ≤ timeHeld bs (k + 1)) (former-next k) (good (k + 1) less .later) in
+        omega arith
 
-  pub in-bounds : imageBroken bs ≡ None → allInBounds (eventsIn bs) ≡ true
-  in-bounds e = all-inside (eventsIn bs) (λ i h. let less : i < eventCount bs = omega (arith, length-in) in ap inBounds (event-in i less) ∙ unbroken-good e i less .inside)
+    pub first-inside : allInBounds (firstEvents bs n m) ≡ true
+    first-inside = all-inside (firstEvents bs n m) (λ i h. let less : i < m = omega (arith, length-first n m) in ap inBounds (event-first n m i less) ∙ good i less .inside)
 
   pub image-lawful : length (imageEvents bs) ≤ mostEvents → Lawful (imageEvents bs) (length (imageEvents bs))
   image-lawful few = go (imageBroken bs) refl few
     where
       go : (o : Option ℕ) → imageBroken bs ≡ o → length (unlessBroken o (eventsIn bs)) ≤ mostEvents → Lawful (unlessBroken o (eventsIn bs)) (length (unlessBroken o (eventsIn bs)))
-      go None e most = record { ordered = in-order e; within = omega arith; small = most; inside = in-bounds e }
+      go None e most = record {
+        ordered = first-ordered (eventCount bs) (eventCount bs) (unbroken-good e);
+        within = omega arith;
+        small = most;
+        inside = first-inside (eventCount bs) (eventCount bs) (unbroken-good e);
+      }
       go (Some i) e most = record { ordered = λ k h. absurd (omega arith); within = omega arith; small = most; inside = refl }

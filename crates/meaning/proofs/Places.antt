@@ -1,12 +1,12 @@
 -- Places of a window, one by one.
-use mathlib.Core.Path.{_≡_, refl}
-use mathlib.Core.List.{List, [], _∷_}
+use mathlib.Core.Path.{_≡_, refl, sym, ap, _∙_}
+use mathlib.Core.List.{_∷_}
 use mathlib.Core.Logic.{_⊎_, inl, inr}
 use Prim.Native.Nat.{ℕ, suc, zero, _+_, _-_, _≤_, _<_}
 use native.Mathlib.Omega.{arith}
 use Rattle.meaning.specs.declared.verdict.Verdict.{Verdict}
 use Rattle.meaning.specs.declared.verdict.Verdict.the-variants.{Holds, Fails, Open}
-use Rattle.meaning.specs.Three.{and3, all3}
+use Rattle.meaning.specs.Three.{not3, and3, all3}
 use Rattle.meaning.specs.Windows.{upfrom, places}
 use Rattle.std.proofs.shelf.Tests.{cases-lt}
 
@@ -14,7 +14,7 @@ use Rattle.std.proofs.shelf.Tests.{cases-lt}
 pub places-next : (i to : ℕ) → i < to → places i to ≡ i ∷ places (i + 1) to
 places-next i to l = let q : to - i ≡ suc (to - (i + 1)) = omega arith in rw q
 
--- What the conjunction says, read backwards.
+-- What the connectives say, read backwards.
 
 pub and-holds : (v w : Verdict) → and3 v w ≡ Holds → (v ≡ Holds) × (w ≡ Holds)
 and-holds Holds w e = (refl, e)
@@ -35,6 +35,16 @@ fails-and v w (inl e) = rw e
 fails-and Holds w (inr e) = e
 fails-and Fails w (inr e) = refl
 fails-and (Open o) w (inr e) = rw e
+
+pub not-fails : (v : Verdict) → not3 v ≡ Fails → v ≡ Holds
+not-fails Holds e = refl
+not-fails Fails e = cc
+not-fails (Open o) e = cc
+
+pub not-holds : (v : Verdict) → not3 v ≡ Holds → v ≡ Fails
+not-holds Holds e = cc
+not-holds Fails e = refl
+not-holds (Open o) e = cc
 
 -- holds and fails are apart
 pub apart : {v : Verdict} → v ≡ Holds → v ≡ Fails → ⊥
@@ -60,8 +70,8 @@ module _ (f : ℕ → Verdict) where
   run-fails i zero e = absurd (apart refl e)
   run-fails i (suc n) e =
       elim (and-fails (f i) (all3 (upfrom (i + 1) n) f) e) [
-        inl h ↦ (i, omega arith, omega arith, h)
-      | inr h ↦ let r = run-fails (i + 1) n h in (r .0, omega arith, omega arith, r .3)
+        | inl h ↦ (i, omega arith, omega arith, h)
+        | inr h ↦ let r = run-fails (i + 1) n h in (r .0, omega arith, omega arith, r .3)
       ]
 
   fails-run : (i n j : ℕ) → i ≤ j → j < i + n → f j ≡ Fails → all3 (upfrom i n) f ≡ Fails
@@ -82,3 +92,32 @@ module _ (f : ℕ → Verdict) where
 
   pub fails-all : (from to j : ℕ) → from ≤ j → j < to → f j ≡ Fails → all3 (places from to) f ≡ Fails
   fails-all from to j l m e = fails-run from (to - from) j l (omega arith) e
+
+-- One more place at the end.
+
+and-assoc : (u v w : Verdict) → and3 (and3 u v) w ≡ and3 u (and3 v w)
+and-assoc Holds v w = refl
+and-assoc Fails v w = refl
+and-assoc (Open o) Holds w = refl
+and-assoc (Open o) Fails w = refl
+and-assoc (Open o) (Open p) Holds = refl
+and-assoc (Open o) (Open p) Fails = refl
+and-assoc (Open o) (Open p) (Open q) = refl
+
+-- what holds says nothing
+and-nothing : (v : Verdict) → and3 v Holds ≡ v
+and-nothing Holds = refl
+and-nothing Fails = refl
+and-nothing (Open o) = refl
+
+run-push : (f : ℕ → Verdict) (i n : ℕ) → all3 (upfrom i (suc n)) f ≡ and3 (all3 (upfrom i n) f) (f (i + n))
+run-push f i zero = let q : i + 0 ≡ i = omega arith in rw q (and-nothing (f i))
+run-push f i (suc n) =
+    let q : i + suc n ≡ i + 1 + n = omega arith in
+    rw q (ap (and3 (f i)) (run-push f (i + 1) n) ∙ sym (and-assoc (f i) (all3 (upfrom (i + 1) n) f) (f (i + 1 + n))))
+
+pub all-push : (f : ℕ → Verdict) (from to : ℕ) → from ≤ to → all3 (places from (to + 1)) f ≡ and3 (all3 (places from to) f) (f to)
+all-push f from to l =
+    let q : (to + 1) - from ≡ suc (to - from) = omega arith in
+    let z : from + (to - from) ≡ to = omega arith in
+    rw q (rw z at (run-push f from (to - from)))

@@ -1,6 +1,6 @@
 -- A scope holds if its property holds at each possible delimiter, and fails if it fails at a certain one.
 use mathlib.Core.Path.{_≡_, refl, ap}
-use mathlib.Core.Logic.{_⊎_, inl, inr, _≢_, _↔_}
+use mathlib.Core.Logic.{inl, inr, _≢_, _↔_}
 use Prim.Native.Nat.{ℕ, _+_, _≤_, _<_}
 use native.Mathlib.Omega.{arith}
 use Rattle.rules.specs.declared.row.Pick.{Pick}
@@ -8,27 +8,17 @@ use Rattle.rules.specs.declared.row.Pick.the-variants.{First, Last, Each}
 use Rattle.meaning.specs.declared.verdict.Origin.{Origin}
 use Rattle.meaning.specs.declared.verdict.Verdict.{Verdict}
 use Rattle.meaning.specs.declared.verdict.Verdict.the-variants.{Holds, Fails, Open}
-use Rattle.meaning.specs.Three.{not3, and3, implies3, all3, settle}
+use Rattle.meaning.specs.Three.{not3, implies3, all3, settle}
 use Rattle.meaning.specs.Windows.{Window, In, places, within}
 use Rattle.meaning.specs.Verdicts.{delimits, scoped}
 use Rattle.meaning.specs.Wording.{Possible, Certain, Wording}
-use Rattle.meaning.proofs.Places.{and-holds, and-fails, fails-and, apart, all-holds, holds-all, all-fails, fails-all}
-
--- What the connectives say, read backwards.
-
-not-fails : (v : Verdict) → not3 v ≡ Fails → v ≡ Holds
-not-fails Holds e = refl
-not-fails Fails e = cc
-not-fails (Open o) e = cc
-
-not-holds : (v : Verdict) → not3 v ≡ Holds → v ≡ Fails
-not-holds Holds e = cc
-not-holds Fails e = refl
-not-holds (Open o) e = cc
+use Rattle.meaning.proofs.Places.{and-holds, and-fails, fails-and, not-fails, not-holds, apart, all-holds, holds-all, all-fails, fails-all}
 
 -- an open answer does not fail
 never : {o : Origin} → Open o ≡ Fails → ⊥
 never e = let z : _≡_ {A = ℕ} 0 1 = cc in omega arith
+
+-- What an implication says, read backwards.
 
 implies-holds : (d p : Verdict) → implies3 d p ≡ Holds → d ≢ Fails → p ≡ Holds
 implies-holds Holds Holds e h = refl
@@ -76,11 +66,13 @@ module _ (f : ℕ → Verdict) (from to : ℕ) where
   holds-none : ((j : ℕ) → from ≤ j → j < to → f j ≡ Fails) → none ≡ Holds
   holds-none h = holds-all (λ j. not3 (f j)) from to (λ j l m. ap not3 (h j l m))
 
+-- an answer that is neither yes nor open is no
 unsure-fails : (v : Verdict) → v ≢ Holds → (v ≢ Fails → ⊥) → v ≡ Fails
 unsure-fails Holds h k = absurd (h refl)
 unsure-fails Fails h k = refl
 unsure-fails (Open o) h k = absurd (k never)
 
+-- neither below nor above
 level : (i j : ℕ) → (j < i → ⊥) → (i < j → ⊥) → j ≡ i
 level i j h k = omega arith
 
@@ -122,6 +114,7 @@ module _ (w : Window) (f : ℕ → Verdict) where
         λ j p. level i j (λ m. p .2 i m (n .1) (h .0)) (λ m. p .1 (z j (omega arith) (p .0 .1))),
       )
 
+-- a scope over any answers of its test and its property
 scope-wording : (o : Pick) (w : Window) (f p : ℕ → Verdict) →
     ((scoped o w f p ≡ Holds) ↔ ((i : ℕ) → Possible o w f i → p i ≡ Holds))
     × ((scoped o w f p ≡ Fails) ↔ ((i : ℕ) × Certain o w f i × (p i ≡ Fails)))

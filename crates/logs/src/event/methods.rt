@@ -32,7 +32,10 @@ impl Event {
     pub fn in_bounds(&self) -> bool
         ensures { λ r. ⌜ r ≡ inBounds (now (self .entry)) ⌝ }
     {
-        self.time <= 2147483647 && 0 < self.name && self.count <= 4 && slots_in(self.count, &self.slots)
+        self.time <= 2147483647
+            && 0 < self.name
+            && self.count <= 4
+            && slots_in(self.count, &self.slots)
     }
 }
 

@@ -1,11 +1,9 @@
 // The events in the bytes of an image.
 ghost use mathlib.Core.Path.{_≡_};
-ghost use mathlib.Core.Bool.{true, _&&_};
-ghost use lib.Dec.{leb};
-ghost use Rattle.logs.specs.Events.{inBounds};
+ghost use mathlib.Core.Bool.{true};
 ghost use Prim.Native.Nat.{_+_, _*_, _<_, _≤_};
 ghost use lib.ListN.{length};
-ghost use Rattle.logs.specs.Image.{Sizes, two, four, signed, sized, bodyPlace, slotPlace, slotAt, slotLaid, bodyLaid, heldAt, lowestBad, imageBroken, imageEvents};
+ghost use Rattle.logs.specs.Image.{Sizes, two, four, signed, sized, bodyPlace, slotPlace, slotAt, slotLaid, bodyLaid, heldAt, goodEvent, lowestBad, imageBroken, imageEvents};
 use crate::event::Event;
 use crate::event::Value;
 
@@ -94,7 +92,7 @@ pub(crate) fn event_at(bytes: &[u8], count: u16, i: u16) -> Event
 // Whether an event with this body is well laid, within its bounds, and not before the former time.
 fn is_good(bytes: &[u8], body: usize, event: &Event, former: u32) -> bool
     requires { ⌜ body + 28 ≤ length (now bytes) ⌝ }
-    ensures { λ r. ⌜ r ≡ (bodyLaid (now (bytes .entry)) body && (inBounds (now (event .entry)) && leb former (now (event .entry) .time))) ⌝ }
+    ensures { λ r. ⌜ r ≡ goodEvent (now (bytes .entry)) body former (now (event .entry)) ⌝ }
 {
     body_laid(bytes, body) && event.in_bounds() && former <= event.time
 }

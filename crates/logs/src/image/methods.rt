@@ -1,3 +1,4 @@
+// A log made over an image, and whether the image is taken.
 ghost use mathlib.Core.Path.{_≡_};
 ghost use Rattle.logs.specs.Checked.{imageBytes, imageAnswer, imageRefusalNumber};
 ghost use Rattle.logs.specs.Exact.{Exact};

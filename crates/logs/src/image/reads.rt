@@ -20,7 +20,7 @@ pub impl<'a> ReadingLog for ImageLog<'a> as ImageReads {
     }
 
     fn limit(&self) -> u16 {
-        self.count
+        self.len()
     }
 
     fn get(&self, place: u16) -> Option<Event> {

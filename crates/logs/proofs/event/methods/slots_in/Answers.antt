@@ -1,11 +1,10 @@
-use mathlib.Core.Path.{_≡_, refl, sym, ap, _∙_}
-use mathlib.Core.Bool.{true, false, _&&_}
-use lib.Dec.{ltb}
+use mathlib.Core.Path.{sym, ap, _∙_}
+use mathlib.Core.Bool.{_&&_}
 use Prim.Native.Nat.{_+_}
-use lib.ListN.{length, getD, drop}
+use lib.ListN.{drop}
 use Rattle.std.proofs.shelf.Lists.{at-drop-more, at-drop-all}
 use Rattle.std.proofs.shelf.Tests.{and-left}
-use Rattle.logs.specs.Events.{slotIn, slotsIn}
+use Rattle.logs.specs.Events.{slotsIn}
 use Rattle.logs.proofs.event.methods.slots_in.Needs as need
 
 pub returns-then-not-slot-in : need.returns-then-not-slot-in

@@ -1,5 +1,4 @@
-use mathlib.Core.Path.{_≡_, sym, ap, _∙_}
-use Prim.Native.Nat.{ℕ}
+use mathlib.Core.Path.{sym, ap, _∙_}
 use Rattle.logs.specs.ImageLaws.{former-next}
 use Rattle.logs.proofs.Lowest.{good-is, lowest-here, lowest-later, lowest-past}
 use Rattle.logs.proofs.image.layout.lowest_bad.Needs as need
@@ -7,15 +6,19 @@ use Rattle.logs.proofs.image.layout.lowest_bad.Needs as need
 pub returns-then-not-is-good : need.returns-then-not-is-good
 returns-then-not-is-good c =
     let bs = c .args .bytes .now in
-    let good = good-is bs (c .args .count) (c .loop-i .i) _ _ _ (c .event-at-event .ensures) (c .body-place .ensures) (c .loop-i .inv .0) in
-    sym (lowest-here bs (c .args .count) (c .loop-i .i) (c .loop-i-test .taken) (sym good ∙ (sym (c .is-good .ensures) ∙ c .if-not-is-good .taken))) ∙ c .loop-i .inv .1
+    let n = c .args .count in
+    let i = c .loop-i .i in
+    let bad = good-is bs n i (c .event-at-event .ensures) (c .body-place .ensures) (c .loop-i .inv .0) (c .is-good .ensures) (c .if-not-is-good .taken) in
+    sym (lowest-here bs n i (c .loop-i-test .taken) bad) ∙ c .loop-i .inv .1
 
 pub loop-i-again : need.loop-i-again
 loop-i-again c =
     let bs = c .args .bytes .now in
-    let good = good-is bs (c .args .count) (c .loop-i .i) _ _ _ (c .event-at-event .ensures) (c .body-place .ensures) (c .loop-i .inv .0) in (
-      ap (λ e. e .time) (c .event-at-event .ensures) ∙ sym (former-next bs (c .loop-i .i)),
-      sym (lowest-later bs (c .args .count) (c .loop-i .i) (c .loop-i-test .taken) (sym good ∙ (sym (c .is-good .ensures) ∙ c .if-not-is-good .left))) ∙ c .loop-i .inv .1,
+    let n = c .args .count in
+    let i = c .loop-i .i in
+    let good = good-is bs n i (c .event-at-event .ensures) (c .body-place .ensures) (c .loop-i .inv .0) (c .is-good .ensures) (c .if-not-is-good .left) in (
+      ap (λ e. e .time) (c .event-at-event .ensures) ∙ sym (former-next bs i),
+      sym (lowest-later bs n i (c .loop-i-test .taken) good) ∙ c .loop-i .inv .1,
     )
 
 pub returns : need.returns

@@ -1,0 +1,260 @@
+-- Each turn of a judging leaves what is answered in the end, and comes nearer to it.
+use mathlib.Core.Path.{_≡_, refl, sym, ap, ap₂, subst, _∙_}
+use mathlib.Core.List.{List, [], _∷_, _++_}
+use mathlib.Core.Bool.{Bool, true, false, cond}
+use Prim.Native.Nat.{ℕ, zero, suc, max, _+_, _-_, _*_, _<_, _≤_}
+use native.Mathlib.Nat.{add-mul, one-mul, mul-le-mul-right}
+use native.Mathlib.Omega.{arith}
+use lib.Dec.{eqb, ltb}
+use lib.ListN.{length, take}
+use Rattle.std.proofs.shelf.Lists.{take-all, length-push}
+use Rattle.std.proofs.shelf.Tests.{and-parts, ltb-true}
+use Rattle.std.specs.declared.option.Option.{Option}
+use Rattle.std.specs.declared.option.Option.the-variants.{Some, None}
+use Rattle.logs.specs.declared.event.Event.{Event}
+use Rattle.logs.specs.declared.event.Value.{Value}
+use Rattle.logs.specs.Events.{eventAt}
+use Rattle.logs.specs.Lawful.{timeAt}
+use Rattle.rules.specs.declared.row.Connective.{Connective}
+use Rattle.rules.specs.declared.row.Pick.{Pick}
+use Rattle.rules.specs.declared.row.Quantifier.{Quantifier}
+use Rattle.rules.specs.declared.row.Row.{Row}
+use Rattle.rules.specs.declared.row.Side.{Side}
+use Rattle.rules.specs.declared.row.Side.the-variants.{After, Before, Given}
+use Rattle.rules.specs.declared.known.Sort.the-variants as sort
+use Rattle.rules.specs.Trees.{Test, Property, notP, connect, occurrence, absence, scope, quantify, rows, testRows, reachOf, Begins}
+use Rattle.rules.specs.Forest.{forest, property1, test1, propertyAt, testAt}
+use Rattle.rules.specs.Wanted.{Sorts, _⊕_ as _with_}
+use Rattle.rules.specs.Scoped.{scoped as wellScoped}
+use Rattle.rules.proofs.Forests.{reads-property, reads-test}
+use Rattle.meaning.specs.declared.verdict.Origin.{Origin}
+use Rattle.meaning.specs.declared.verdict.Variable.{Variable}
+use Rattle.meaning.specs.declared.verdict.Variable.the-variants as var
+use Rattle.meaning.specs.declared.verdict.Verdict.{Verdict}
+use Rattle.meaning.specs.declared.verdict.Verdict.the-variants.{Holds, Fails, Open}
+use Rattle.meaning.specs.Three.{not3, count, possible?, atLeast3}
+use Rattle.meaning.specs.Terms.{Variables, _⊕_, asked, bound, eventIn}
+use Rattle.meaning.specs.Windows.{Window, window, places, upfrom, near, within}
+use Rattle.meaning.specs.Verdicts.{connected, quantified, scoped, judged}
+use Rattle.judging.specs.declared.sweep.Outcome.{Outcome}
+use Rattle.judging.specs.declared.sweep.Outcome.the-variants.{Settled, SoFar}
+use Rattle.judging.specs.declared.working.Found.{Found}
+use Rattle.judging.specs.declared.working.JudgingRow.{JudgingRow}
+use Rattle.judging.specs.declared.working.JudgingRow.the-variants.{Negation, Left, Right, Values, Places}
+use Rattle.judging.specs.declared.working.Quantifying.{Quantifying}
+use Rattle.judging.specs.declared.working.Scoping.{Scoping}
+use Rattle.judging.specs.declared.working.Turn.{Turn}
+use Rattle.judging.specs.declared.working.Turn.the-variants.{Ask, Told}
+use Rattle.judging.specs.Seeking.{delimiterTest, FoundAt}
+use Rattle.judging.specs.Slots.{codedFrom}
+use Rattle.judging.specs.Sweeps.{order, doubted, closed, absorbed, swept}
+use Rattle.judging.specs.Machine.{decided, start, combined, settles, judgedAt, inner, sweeping, continued, gathering, resume, worth, steps, stepsAt, pending, turnsLeft, depthOf, Standing, ValuesReady, PlacesReady, RightReady, Waits, Asking, Onward}
+use Rattle.judging.proofs.Binding.{forgotten}
+use Rattle.judging.proofs.Counting.{count-few, places-many}
+use Rattle.judging.proofs.Folding.{combined-start, combined-none, combined-next, combined-settled, decided-is}
+use Rattle.judging.proofs.Sweeps.{sweeps}
+
+-- The tree of a part is read off its rows.
+
+pub property-is : (all : List Row) (at : ℕ) (p : Property) → Begins all at (rows p) → propertyAt all at ≡ p
+property-is all at p b = ap (λ l. property1 (forest l)) (b .split) ∙ ap property1 (reads-property p (b .rest))
+
+pub test-is : (all : List Row) (at : ℕ) (t : Test) → Begins all at (testRows t) → testAt all at ≡ t
+test-is all at t b = ap (λ l. test1 (forest l)) (b .split) ∙ ap test1 (reads-test t (b .rest))
+
+pub test-begins : (all : List Row) (at : ℕ) (t : Test) → Begins all at (testRows t) → Begins all at (testRows (testAt all at))
+test-begins all at t b = subst (λ u. Begins all at (testRows u)) (sym (test-is all at t b)) b
+
+pub standing : (all : List Row) (m at n room : ℕ) (p : Property) → Begins all at (rows p) → (sorts : Sorts) → length sorts ≡ m → wellScoped sorts p ≡ true → n + depthOf p ≤ room → Standing all m at n room
+standing all m at n room p b sorts many fits deep =
+    let e = sym (property-is all at p b) in
+    record {
+      begins = subst (λ q. Begins all at (rows q)) e b;
+      sorts = sorts;
+      many = many;
+      fits = subst (λ q. wellScoped sorts q ≡ true) e fits;
+      deep = subst (λ q. n + depthOf q ≤ room) e deep;
+    }
+
+-- the rows of a property enclose one another no deeper than there are property rows
+pub depth-reach : (p : Property) → depthOf p ≤ reachOf p
+depth-reach (notP p) = let a = depth-reach p in omega arith
+depth-reach (connect c p q) = let a = depth-reach p in let b = depth-reach q in omega arith
+depth-reach (occurrence a n t) = omega arith
+depth-reach (absence a t) = omega arith
+depth-reach (scope s o a d t p) = let a = depth-reach p in omega arith
+depth-reach (quantify q a b p) = let a = depth-reach p in omega arith
+
+kept : (η : Variables) → take (length η) η ≡ η
+kept η = take-all (length η) η (omega arith)
+
+-- one more try is paid for
+paid : (n k b : ℕ) → n < k → b + (1 + n * (1 + b)) < 1 + k * (1 + b)
+paid n k b h =
+    let a = add-mul n 1 (1 + b) in
+    let c = one-mul (1 + b) in
+    let d : (n + 1) * (1 + b) ≤ k * (1 + b) = mul-le-mul-right (1 + b) (omega arith) in
+    omega arith
+
+count-within : (q : ℕ → Bool) (from to : ℕ) → from ≤ to → from + count q (places from to) ≤ to
+count-within q from to h = let a = count-few q (places from to) in let b = places-many from to in omega arith
+
+-- the window of a scope ends within its own
+pub window-inside : (s : Side) (t : ℕ → ℕ) (d i : ℕ) (w : Window) → i < w .1 → window s t d i w .1 ≤ w .1
+window-inside After t d i w h = go (eqb d 0)
+  where
+    go : (b : Bool) → cond b (w .1) (i + 1 + count (λ j. near d (t i) (t j)) (places (i + 1) (w .1))) ≤ w .1
+    go true = omega arith
+    go false = count-within (λ j. near d (t i) (t j)) (i + 1) (w .1) (omega arith)
+window-inside Before t d i w h = omega arith
+window-inside Given t d i w h = omega arith
+
+-- the first of the places still to be tried, where its test is other than no
+sweep-on : (o : Pick) (f p : ℕ → Verdict) (d : Option Origin) (s : Verdict) (i : ℕ) (is : List ℕ) (v : Verdict) → v ≡ f i → possible? v ≡ true →
+    swept o f p d s (i ∷ is) ≡ elim (absorbed o v (doubted o v d) s (p i)) [ Settled u ↦ u | SoFar u ↦ swept o f p (doubted o v d) u is ]
+sweep-on o f p d s i is v e h =
+    ap (λ x. cond (possible? x) (elim (absorbed o x (doubted o x d) s (p i)) [ Settled u ↦ u | SoFar u ↦ swept o f p (doubted o x d) u is ]) (swept o f p d s is)) (sym e)
+    ∙ ap (λ b. cond b (elim (absorbed o v (doubted o v d) s (p i)) [ Settled u ↦ u | SoFar u ↦ swept o f p (doubted o v d) u is ]) (swept o f p d s is)) h
+
+module _ (es : List Event) (rs : List Row) (room : ℕ) where
+  goes-on : (sc : Scoping) (η : Variables) (w : Window) (d : Option Origin) (left : Window) (x : Outcome) →
+      elim x [ Settled u ↦ u | SoFar u ↦ swept (sc .pick) (delimiterTest es rs sc η) (inner es rs sc η w) d u (order (sc .pick) left) ] ≡ continued es rs sc η w d left x
+  goes-on sc η w d left (Settled u) = refl
+  goes-on sc η w d left (SoFar u) = refl
+
+  -- the same turn, as the code has it
+  pub onto : {η θ : Variables} {t u : Turn} {s r : List JudgingRow} {v : Verdict} {n : ℕ} → Onward es rs room η t s v n → θ ≡ η → u ≡ t → r ≡ s → Onward es rs room θ u r v n
+  onto {η} {θ} {t} {u} {s} {r} {v} {n} o a b c =
+      subst (λ x. Onward es rs room x u r v n) (sym a) (subst (λ x. Onward es rs room η x r v n) (sym b) (subst (λ x. Onward es rs room η t x v n) (sym c) o))
+
+  pub reworded : {η : Variables} {t : Turn} {s : List JudgingRow} {v w : Verdict} {m n : ℕ} → Onward es rs room η t s v m → v ≡ w → m ≤ n → Onward es rs room η t s w n
+  reworded o e h = record { valid = o .valid; same = o .same ∙ e; nearer = let a = o .nearer in omega arith }
+
+  -- At a row.
+  module _ (η : Variables) (at : ℕ) (w : Window) (s : List JudgingRow) (ok : Asking es rs room η at w s) where
+    abbrev At : Variables → Turn → List JudgingRow → Type 0
+    At θ t r = Onward es rs room θ t r (worth es rs η (Ask at w) s) (turnsLeft rs (Ask at w) s)
+
+    pub on-not : (q : Property) → propertyAt rs at ≡ notP q → Begins rs (at + 1) (rows q) → At η (Ask (at + 1) w) (Negation ∷ s)
+    on-not q e b =
+        let k = ok .stands in
+        let i = property-is rs (at + 1) q b in
+        let deep = subst (λ p. length s + depthOf p ≤ room) e (k .deep) in
+        let before : stepsAt rs at ≡ 2 + steps q = ap steps e in
+        let after : stepsAt rs (at + 1) ≡ steps q = ap steps i in
+        record {
+          valid = record {
+            stands = standing rs (length η) (at + 1) (suc (length s)) room q b (k .sorts) (k .many) (subst (λ p. wellScoped (k .sorts) p ≡ true) e (k .fits)) (omega arith);
+            inside = ok .inside;
+            waits = ok .waits;
+          };
+          same = ap (λ p. resume es rs η s (not3 (judged es η w (at + 1) p))) i ∙ sym (ap (λ p. resume es rs η s (judged es η w at p)) e);
+          nearer = omega arith;
+        }
+
+    pub on-connect : (c : Connective) (p q : Property) (right : ℕ) → propertyAt rs at ≡ connect c p q → Begins rs (at + 1) (rows p) → Begins rs right (rows q) → right ≡ at + 1 + length (rows p) →
+        At η (Ask (at + 1) w) (Left c right w (length η) ∷ s)
+    on-connect c p q right e b d place =
+        let k = ok .stands in
+        let i = property-is rs (at + 1) p b in
+        let j = property-is rs right q d in
+        let deep = subst (λ x. length s + depthOf x ≤ room) e (k .deep) in
+        let fits = and-parts _ _ (subst (λ x. wellScoped (k .sorts) x ≡ true) e (k .fits)) in
+        let before : stepsAt rs at ≡ 3 + (steps p + steps q) = ap steps e in
+        let first : stepsAt rs (at + 1) ≡ steps p = ap steps i in
+        let second : stepsAt rs right ≡ steps q = ap steps j in
+        record {
+          valid = record {
+            stands = standing rs (length η) (at + 1) (suc (length s)) room p b (k .sorts) (k .many) (fits .0) (omega arith);
+            inside = ok .inside;
+            waits = subst (λ θ. RightReady es rs room (length θ) (length s) right w × Waits es rs room θ s) (sym (kept η))
+                (record { side = standing rs (length η) right (length s + 1) room q d (k .sorts) (k .many) (fits .1) (omega arith); inside = ok .inside }, ok .waits);
+          };
+          same = ap (λ θ. resume es rs θ s (connected c (judgedAt es rs η w (at + 1)) (judgedAt es rs θ w right))) (kept η)
+              ∙ ap₂ (λ x y. resume es rs η s (connected c (judged es η w (at + 1) x) (judged es η w right y))) i j
+              ∙ ap (λ r. resume es rs η s (connected c (judged es η w (at + 1) p) (judged es η w r q))) place
+              ∙ sym (ap (λ x. resume es rs η s (judged es η w at x)) e);
+          nearer = omega arith;
+        }
+
+    -- a property that is judged at once
+    pub on-leaf : (v : Verdict) → v ≡ judgedAt es rs η w at → 0 < stepsAt rs at → At η (Told v) s
+    on-leaf v e h = record { valid = ok .waits; same = ap (resume es rs η s) e; nearer = omega arith }
+
+  -- At the places of a scope that are still to be tried.
+  module _ (η : Variables) (s : List JudgingRow) (sc : Scoping) (w left : Window) (low : Option Origin) (u : Verdict)
+      (ready : PlacesReady es rs room (length η) (length s) sc w left) (waits : Waits es rs room η s) where
+    abbrev pub Trying : Variables → Turn → List JudgingRow → Type 0
+    Trying θ t r =
+        Onward es rs room θ t r (resume es rs η s (sweeping es rs sc η w low u left)) (1 + ((left .1 - left .0) * (1 + stepsAt rs (sc .body)) + pending rs s))
+
+    pub none-left : sweeping es rs sc η w low u left ≡ closed low u → Trying η (Told (closed low u)) s
+    none-left e = record { valid = waits; same = ap (resume es rs η s) (sym e); nearer = omega arith }
+
+    pub next-found : (x : Found) (θ : Variables) → FoundAt es rs sc left η θ x →
+        Trying θ (Ask (sc .body) (window (sc .side) (timeAt es) (sc .duration) (x .place) w)) (Places sc w (length η) (x .left) (x .test) (doubted (sc .pick) (x .test) low) u ∷ s)
+    next-found x θ k =
+        let e = var.Event (eventAt es (x .place)) in
+        let o = sc .pick in
+        let f = delimiterTest es rs sc η in
+        let p = inner es rs sc η w in
+        let d = doubted o (x .test) low in
+        let b = ready .body in
+        let i = k .inside in
+        let j = ready .within in
+        let l = k .fewer .inside in
+        let inside = window-inside (sc .side) (timeAt es) (sc .duration) (x .place) w (omega arith) in
+        let z = ready .inside in
+        let long : length (η ⊕ e) ≡ length η + 1 = length-push η e in
+        let one : length s + 1 ≡ suc (length s) = omega arith in
+        let cost = paid (x .left .1 - x .left .0) (left .1 - left .0) (stepsAt rs (sc .body)) (k .fewer .less) in
+        let next : Trying (η ⊕ e) (Ask (sc .body) (window (sc .side) (timeAt es) (sc .duration) (x .place) w)) (Places sc w (length η) (x .left) (x .test) d u ∷ s)
+        = record {
+          valid = record {
+            stands = subst (λ m. Standing rs m (sc .body) (suc (length s)) room) (sym long) (subst (λ n. Standing rs (length η + 1) (sc .body) n room) one b);
+            inside = omega arith;
+            waits = subst (λ ζ. PlacesReady es rs room (length ζ) (length s) sc w (x .left) × Waits es rs room ζ s) (sym (forgotten η e))
+                (record { body = b; test = ready .test; space = ready .space; inside = z; within = omega arith }, waits);
+          };
+          same = ap (λ ζ. resume es rs ζ s (continued es rs sc ζ w d (x .left) (absorbed o (x .test) d u (p (x .place))))) (forgotten η e)
+              ∙ ap (resume es rs η s) (sym (goes-on sc η w d (x .left) (absorbed o (x .test) d u (p (x .place)))) ∙ sym (sweep-on o f p low u (x .place) (order o (x .left)) (x .test) (k .test) (k .possible)) ∙ sym (k .same p low u));
+          nearer = omega arith;
+        } in
+        onto next (k .bound) refl refl
+
+  -- At the values of a quantifier that are still to come.
+  module _ (η : Variables) (s : List JudgingRow) (q : Quantifying) (w : Window) (k : ℕ) (u : Verdict)
+      (ready : ValuesReady es rs room (length η) (length s) q w) (waits : Waits es rs room η s) where
+    abbrev pub Gathering : Variables → Turn → List JudgingRow → Type 0
+    Gathering θ t r = Onward es rs room θ t r (resume es rs η s (gathering es rs q η w u k)) (1 + ((4 - k) * (1 + stepsAt rs (q .body)) + pending rs s))
+
+    abbrev values : ℕ → List Value
+    values j = codedFrom (q .code) (eventIn (bound η (q .variable))) j
+
+    abbrev each : Value → Verdict
+    each v = judgedAt es rs (η ⊕ var.Number v) w (q .body)
+
+    pub no-value : values k ≡ [] → Gathering η (Told u) s
+    no-value e = record {
+      valid = waits;
+      same = ap (resume es rs η s) (sym (ap (λ vs. combined (q .quantifier) u (quantified (q .quantifier) vs each)) e ∙ combined-none (q .quantifier) u each));
+      nearer = omega arith;
+    }
+
+    pub next-value : (j : ℕ) (v : Value) → k ≤ j → j < 4 → values k ≡ v ∷ values (j + 1) → Gathering (η ⊕ var.Number v) (Ask (q .body) w) (Values q w (length η) (j + 1) u ∷ s)
+    next-value j v h l e =
+        let x = var.Number v in
+        let b = ready .body in
+        let long : length (η ⊕ x) ≡ length η + 1 = length-push η x in
+        let one : length s + 1 ≡ suc (length s) = omega arith in
+        let cost = paid (4 - (j + 1)) (4 - k) (stepsAt rs (q .body)) (omega arith) in
+        record {
+          valid = record {
+            stands = subst (λ m. Standing rs m (q .body) (suc (length s)) room) (sym long) (subst (λ n. Standing rs (length η + 1) (q .body) n room) one b);
+            inside = ready .inside;
+            waits = subst (λ ζ. ValuesReady es rs room (length ζ) (length s) q w × Waits es rs room ζ s) (sym (forgotten η x)) (ready, waits);
+          };
+          same = ap (λ ζ. resume es rs ζ s (gathering es rs q ζ w (combined (q .quantifier) u (each v)) (j + 1))) (forgotten η x)
+              ∙ ap (resume es rs η s) (combined-next (q .quantifier) u v (values (j + 1)) each ∙ ap (λ vs. combined (q .quantifier) u (quantified (q .quantifier) vs each)) (sym e));
+          nearer = omega arith;
+        }

@@ -1,0 +1,38 @@
+use mathlib.Core.Path.{_≡_, refl, sym, ap, subst, _∙_}
+use mathlib.Core.List.{_∷_, []}
+use Prim.Native.Nat.{_+_, _<_, _≤_}
+use native.Mathlib.Omega.{arith}
+use lib.ListN.{length}
+use Rattle.meaning.specs.Terms.{bound, eventIn}
+use Rattle.judging.specs.declared.working.JudgingRow.the-variants.{Values}
+use Rattle.judging.specs.Bindings.{bindings}
+use Rattle.judging.specs.Slots.{codedFrom, NextCoded}
+use Rattle.judging.specs.Stacks.{held, room}
+use Rattle.judging.proofs.Piling.{with-room}
+use Rattle.judging.proofs.Turns.{onto, no-value, next-value}
+use Rattle.judging.proofs.machine.next_value.Needs as need
+
+pub returns-in-None : need.returns-in-None
+returns-in-None c =
+    let q = c .args .quantifying in
+    let same = c .known-event-event .ensures ∙ ap (λ θ. eventIn (bound θ (q .variable))) (c .list .ensures) in
+    let none = subst (λ e. codedFrom (q .code) e (c .args .slot) ≡ []) same (c .in-None .ensures tt) in
+    record { onward = λ es r w. no-value es (c .args .rows .now) _ _ _ q (c .args .window) (c .args .slot) (c .args .so-far) r w none; space = refl }
+
+pub returns-in-Some : need.returns-in-Some
+returns-in-Some c =
+    let q = c .args .quantifying in
+    let s = held (c .args .stack .now) in
+    let same = c .known-event-event .ensures ∙ ap (λ θ. eventIn (bound θ (q .variable))) (c .list .ensures) in
+    let some = subst (λ e. NextCoded e (q .code) (c .args .slot) (c .next-coded .result)) same (c .next-coded .ensures) in
+    let found = subst (NextCoded (eventIn (bound (bindings (c .args .known .now)) (q .variable))) (q .code) (c .args .slot)) (c .in-Some .is) some in
+    record {
+      onward = λ es r w.
+          let deep = r .body .deep in
+          let free : length s < room (c .args .stack .now) = omega arith in
+          let items = c .push .ensures .items ∙ with-room _ _ s free ∙ ap (λ d. Values q (c .args .window) d (c .in-Some .found + 1) (c .args .so-far) ∷ s) (c .depth-depth .ensures) in
+          onto es (c .args .rows .now) _
+          (next-value es (c .args .rows .now) _ _ s q (c .args .window) (c .args .slot) (c .args .so-far) r w (c .in-Some .found) (c .in-Some .value) (found .0) (found .1) (found .2))
+          (c .bind .ensures) refl items;
+      space = c .push .ensures .space;
+    }

@@ -1,0 +1,257 @@
+// A rule judged over a log, row by row, with the rows that wait on a stack.
+ghost use mathlib.Core.Path.{_≡_};
+ghost use mathlib.Core.Bool.{Bool, true};
+ghost use mathlib.Core.List.{List, [], _∷_};
+ghost use Prim.Native.Nat.{ℕ, _+_, _-_, _*_, _<_, _≤_};
+ghost use lib.ListN.{length};
+ghost use Rattle.logs.specs.declared.event.Event.{Event as Ev};
+ghost use Rattle.rules.specs.Forest.{propertyAt};
+ghost use Rattle.rules.specs.Trees.{rows as written, Begins};
+ghost use Rattle.meaning.specs.Windows.{Window};
+ghost use Rattle.judging.specs.declared.working.Turn.the-variants.{Ask, Told};
+ghost use Rattle.judging.specs.Bindings.{bindings};
+ghost use Rattle.judging.specs.Machine.{decided, start, combined, settles, judgedAt, sweeping, gathering, resume, worth, stepsAt, pending, turnsLeft, Standing, ValuesReady, PlacesReady, Waits, Asking, Onward, OnwardTold, OnwardAsked};
+ghost use Rattle.judging.specs.Stacks.{held, room};
+use crate::combine::conjoin;
+use crate::combine::connect;
+use crate::combine::disjoin;
+use crate::combine::negate;
+use crate::extents::behind;
+use crate::known::Known;
+use crate::occurrence::occurs;
+use crate::seeking::seek;
+use crate::slots::next_coded;
+use crate::stack::Stack;
+use crate::sweep::Outcome;
+use crate::sweep::absorb;
+use crate::sweep::close;
+use crate::sweep::doubt;
+use crate::term::known_event;
+use crate::windows::cut;
+use crate::working::Found;
+use crate::working::JudgingRow;
+use crate::working::Quantifying;
+use crate::working::Scoping;
+use crate::working::Turn;
+use logs::log::ReadingLog;
+use meaning::verdict::Origin;
+use meaning::verdict::Variable;
+use meaning::verdict::Verdict;
+use rules::row::Connective;
+use rules::row::Quantifier;
+use rules::row::Row;
+
+// The verdict of a connective that its left side decides.
+fn decide(connective: Connective, left: Verdict) -> Option<Verdict>
+    ensures { λ r. ⌜ r ≡ decided connective left ⌝ }
+{
+    match (connective, left) {
+        (Connective::Or, Verdict::Holds) => Some(Verdict::Holds),
+        (Connective::And, Verdict::Fails) => Some(Verdict::Fails),
+        (Connective::Implies, Verdict::Fails) => Some(Verdict::Holds),
+        _ => None,
+    }
+}
+
+// A quantifier before its first value.
+fn start_of(quantifier: Quantifier) -> Verdict
+    ensures { λ r. ⌜ r ≡ start quantifier ⌝ }
+{
+    match quantifier {
+        Quantifier::Forall => Verdict::Holds,
+        Quantifier::Exists => Verdict::Fails,
+    }
+}
+
+// A quantifier with one more value.
+fn gather(quantifier: Quantifier, so_far: Verdict, v: Verdict) -> Verdict
+    ensures { λ r. ⌜ r ≡ combined quantifier «so_far» v ⌝ }
+{
+    match quantifier {
+        Quantifier::Forall => conjoin(so_far, v),
+        Quantifier::Exists => disjoin(so_far, v),
+    }
+}
+
+// Whether further values cannot change a quantifier's verdict.
+fn is_settled(quantifier: Quantifier, so_far: Verdict) -> bool
+    ensures { λ r. ⌜ r ≡ settles quantifier «so_far» ⌝ }
+{
+    match (quantifier, so_far) {
+        (Quantifier::Forall, Verdict::Fails) => true,
+        (Quantifier::Exists, Verdict::Holds) => true,
+        _ => false,
+    }
+}
+
+// One turn: to the next possible delimiter of a scope, or past the scope.
+fn try_next<L: ReadingLog>(
+    log: &L,
+    rows: &[Row],
+    scoping: Scoping,
+    window: (u16, u16),
+    places: (u16, u16),
+    lowest: Option<Origin>,
+    so_far: Verdict,
+    known: &mut Known,
+    stack: &mut Stack<JudgingRow>,
+) -> Turn
+    requires ready { ⌜ PlacesReady (events (now log)) (now rows) (room (now stack)) (length (bindings (now known))) (length (held (now stack))) scoping window places ⌝ }
+    requires waits { ⌜ Waits (events (now log)) (now rows) (room (now stack)) (bindings (now known)) (held (now stack)) ⌝ }
+    ensures onward { λ r. ⌜ Onward (events (now (log .entry))) (now (rows .entry)) (room (now (stack .entry))) (bindings (now (known .exit))) r (held (now (stack .exit))) (resume (events (now (log .entry))) (now (rows .entry)) (bindings (now (known .entry))) (held (now (stack .entry))) (sweeping (events (now (log .entry))) (now (rows .entry)) scoping (bindings (now (known .entry))) window lowest «so_far» places)) (1 + ((places .1 - places .0) * (1 + stepsAt (now (rows .entry)) (scoping .body)) + pending (now (rows .entry)) (held (now (stack .entry))))) ⌝ }
+    ensures space { λ _. ⌜ room (now (stack .exit)) ≡ room (now (stack .entry)) ⌝ }
+{
+    let depth = known.depth();
+    match seek(log, rows, scoping, places, known) {
+        None => Turn::Told {
+            verdict: close(lowest, so_far),
+        },
+        Some(found) => {
+            let Found {
+                place,
+                time,
+                test,
+                left,
+            } = found;
+            let lowest = doubt(scoping.pick, test, lowest);
+            stack.push(JudgingRow::Places {
+                scoping,
+                window,
+                depth,
+                left,
+                test,
+                lowest,
+                so_far,
+            });
+            Turn::Ask {
+                at: scoping.body,
+                window: cut(log, scoping.side, scoping.duration, place, time, window),
+            }
+        }
+    }
+}
+
+// One turn: to the next value of a quantifier, or past the quantifier.
+fn next_value(
+    rows: &[Row],
+    quantifying: Quantifying,
+    window: (u16, u16),
+    slot: usize,
+    so_far: Verdict,
+    known: &mut Known,
+    stack: &mut Stack<JudgingRow>,
+) -> Turn
+    requires free { ⌜ length (bindings (now known)) < 8 ⌝ }
+    ensures onward { λ r. ⌜ ((es : List Ev) → ValuesReady es (now (rows .entry)) (room (now (stack .entry))) (length (bindings (now (known .entry)))) (length (held (now (stack .entry)))) quantifying window → Waits es (now (rows .entry)) (room (now (stack .entry))) (bindings (now (known .entry))) (held (now (stack .entry))) → Onward es (now (rows .entry)) (room (now (stack .entry))) (bindings (now (known .exit))) r (held (now (stack .exit))) (resume es (now (rows .entry)) (bindings (now (known .entry))) (held (now (stack .entry))) (gathering es (now (rows .entry)) quantifying (bindings (now (known .entry))) window «so_far» slot)) (1 + ((4 - slot) * (1 + stepsAt (now (rows .entry)) (quantifying .body)) + pending (now (rows .entry)) (held (now (stack .entry)))))) ⌝ }
+    ensures space { λ _. ⌜ room (now (stack .exit)) ≡ room (now (stack .entry)) ⌝ }
+{
+    let depth = known.depth();
+    let event = known_event(known.list(), quantifying.variable);
+    match next_coded(&event, quantifying.code, slot) {
+        None => Turn::Told { verdict: so_far },
+        Some((found, value)) => {
+            stack.push(JudgingRow::Values {
+                quantifying,
+                window,
+                depth,
+                next: found + 1,
+                so_far,
+            });
+            known.bind(Variable::Number(value));
+            Turn::Ask {
+                at: quantifying.body,
+                window,
+            }
+        }
+    }
+}
+
+// One turn, where the left side of a connective has the verdict v.
+fn tell_left<L: ReadingLog>(
+    log: &L,
+    rows: &[Row],
+    connective: Connective,
+    right: usize,
+    window: (u16, u16),
+    depth: usize,
+    v: Verdict,
+    known: &mut Known,
+    stack: &mut Stack<JudgingRow>,
+) -> Turn
+    requires waits { ⌜ Waits (events (now log)) (now rows) (room (now stack)) (bindings (now known)) (JudgingRow.Left connective right window depth ∷ held (now stack)) ⌝ }
+    ensures onward { λ r. ⌜ OnwardTold (events (now (log .entry))) (now (rows .entry)) (room (now (stack .entry))) (bindings (now (known .entry))) v (JudgingRow.Left connective right window depth ∷ held (now (stack .entry))) (bindings (now (known .exit))) r (held (now (stack .exit))) ⌝ }
+    ensures space { λ _. ⌜ room (now (stack .exit)) ≡ room (now (stack .entry)) ⌝ }
+{
+    known.truncate(depth);
+    match decide(connective, v) {
+        Some(verdict) => Turn::Told { verdict },
+        None => {
+            stack.push(JudgingRow::Right {
+                connective,
+                left: v,
+            });
+            Turn::Ask { at: right, window }
+        }
+    }
+}
+
+// One turn, where the property of a quantifier has the verdict v for one more value.
+fn tell_value<L: ReadingLog>(
+    log: &L,
+    rows: &[Row],
+    quantifying: Quantifying,
+    window: (u16, u16),
+    depth: usize,
+    next: usize,
+    so_far: Verdict,
+    v: Verdict,
+    known: &mut Known,
+    stack: &mut Stack<JudgingRow>,
+) -> Turn
+    requires waits { ⌜ Waits (events (now log)) (now rows) (room (now stack)) (bindings (now known)) (JudgingRow.Values quantifying window depth next «so_far» ∷ held (now stack)) ⌝ }
+    ensures onward { λ r. ⌜ OnwardTold (events (now (log .entry))) (now (rows .entry)) (room (now (stack .entry))) (bindings (now (known .entry))) v (JudgingRow.Values quantifying window depth next «so_far» ∷ held (now (stack .entry))) (bindings (now (known .exit))) r (held (now (stack .exit))) ⌝ }
+    ensures space { λ _. ⌜ room (now (stack .exit)) ≡ room (now (stack .entry)) ⌝ }
+{
+    known.truncate(depth);
+    let so_far = gather(quantifying.quantifier, so_far, v);
+    if is_settled(quantifying.quantifier, so_far) {
+        return Turn::Told { verdict: so_far };
+    }
+    next_value(rows, quantifying, window, next, so_far, known, stack)
+}
+
+// One turn, where the property of a scope has the verdict v at one more delimiter.
+fn tell_place<L: ReadingLog>(
+    log: &L,
+    rows: &[Row],
+    scoping: Scoping,
+    window: (u16, u16),
+    depth: usize,
+    left: (u16, u16),
+    test: Verdict,
+    lowest: Option<Origin>,
+    so_far: Verdict,
+    v: Verdict,
+    known: &mut Known,
+    stack: &mut Stack<JudgingRow>,
+) -> Turn
+    requires waits { ⌜ Waits (events (now log)) (now rows) (room (now stack)) (bindings (now known)) (JudgingRow.Places scoping window depth left test lowest «so_far» ∷ held (now stack)) ⌝ }
+    ensures onward { λ r. ⌜ OnwardTold (events (now (log .entry))) (now (rows .entry)) (room (now (stack .entry))) (bindings (now (known .entry))) v (JudgingRow.Places scoping window depth left test lowest «so_far» ∷ held (now (stack .entry))) (bindings (now (known .exit))) r (held (now (stack .exit))) ⌝ }
+    ensures space { λ _. ⌜ room (now (stack .exit)) ≡ room (now (stack .entry)) ⌝ }
+{
+    known.truncate(depth);
+    match absorb(scoping.pick, test, lowest, so_far, v) {
+        Outcome::Settled(verdict) => Turn::Told { verdict },
+        Outcome::SoFar(so_far) => try_next(
+            log,
+            rows,
+            scoping,
+            window,
+            left,
+            lowest,
+            so_far,
+            known,
+            stack,
+        ),
+    }
+}
