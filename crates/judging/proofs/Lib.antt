@@ -6,6 +6,7 @@ mod Folding
 mod Joins
 mod Piling
 mod Halving
+mod Rules
 mod Seeks
 mod Sweeps
 mod Turns

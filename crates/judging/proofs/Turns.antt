@@ -6,7 +6,7 @@ use Prim.Native.Nat.{ℕ, zero, suc, max, _+_, _-_, _*_, _<_, _≤_}
 use native.Mathlib.Nat.{add-mul, one-mul, mul-le-mul-right}
 use native.Mathlib.Omega.{arith}
 use lib.Dec.{eqb, ltb}
-use lib.ListN.{length, take}
+use lib.ListN.{length, take, getD}
 use Rattle.std.proofs.shelf.Lists.{take-all, length-push}
 use Rattle.std.proofs.shelf.Tests.{and-parts, ltb-true}
 use Rattle.std.specs.declared.option.Option.{Option}
@@ -19,14 +19,16 @@ use Rattle.rules.specs.declared.row.Connective.{Connective}
 use Rattle.rules.specs.declared.row.Pick.{Pick}
 use Rattle.rules.specs.declared.row.Quantifier.{Quantifier}
 use Rattle.rules.specs.declared.row.Row.{Row}
+use Rattle.rules.specs.declared.row.Row.the-variants.{Not, Connect, Occurrence, Absence, Scope, Quantify}
 use Rattle.rules.specs.declared.row.Side.{Side}
 use Rattle.rules.specs.declared.row.Side.the-variants.{After, Before, Given}
 use Rattle.rules.specs.declared.known.Sort.the-variants as sort
 use Rattle.rules.specs.Trees.{Test, Property, notP, connect, occurrence, absence, scope, quantify, rows, testRows, reachOf, Begins}
 use Rattle.rules.specs.Forest.{forest, property1, test1, propertyAt, testAt}
-use Rattle.rules.specs.Wanted.{Sorts, _⊕_ as _with_}
+use Rattle.rules.specs.Wanted.{Sorts, roomIn, _⊕_ as _with_}
 use Rattle.rules.specs.Scoped.{scoped as wellScoped}
 use Rattle.rules.proofs.Forests.{reads-property, reads-test}
+use Rattle.rules.proofs.Fronts.{front-row}
 use Rattle.meaning.specs.declared.verdict.Origin.{Origin}
 use Rattle.meaning.specs.declared.verdict.Variable.{Variable}
 use Rattle.meaning.specs.declared.verdict.Variable.the-variants as var
@@ -64,6 +66,17 @@ test-is all at t b = ap (λ l. test1 (forest l)) (b .split) ∙ ap test1 (reads-
 
 pub test-begins : (all : List Row) (at : ℕ) (t : Test) → Begins all at (testRows t) → Begins all at (testRows (testAt all at))
 test-begins all at t b = subst (λ u. Begins all at (testRows u)) (sym (test-is all at t b)) b
+
+-- no property begins with a row of another kind
+pub no-property : (all : List Row) (at : ℕ) (d : Row) (p : Property) → Begins all at (rows p) →
+    (getD all at d ≡ Not → ⊥) → ((c : _) → getD all at d ≡ Connect c → ⊥) → ((a n : ℕ) → getD all at d ≡ Occurrence a n → ⊥) → ((a : ℕ) → getD all at d ≡ Absence a → ⊥) →
+    ((s : _) (o : _) (a l : ℕ) → getD all at d ≡ Scope s o a l → ⊥) → ((q : _) (a b : ℕ) → getD all at d ≡ Quantify q a b → ⊥) → ⊥
+no-property all at d (notP p) b nn nc ny na ns nq = nn (front-row all at _ _ b d)
+no-property all at d (connect c p q) b nn nc ny na ns nq = nc c (front-row all at _ _ b d)
+no-property all at d (occurrence a n t) b nn nc ny na ns nq = ny a n (front-row all at _ _ b d)
+no-property all at d (absence a t) b nn nc ny na ns nq = na a (front-row all at _ _ b d)
+no-property all at d (scope s o a l t p) b nn nc ny na ns nq = ns s o a l (front-row all at _ _ b d)
+no-property all at d (quantify q a v p) b nn nc ny na ns nq = nq q a v (front-row all at _ _ b d)
 
 pub standing : (all : List Row) (m at n room : ℕ) (p : Property) → Begins all at (rows p) → (sorts : Sorts) → length sorts ≡ m → wellScoped sorts p ≡ true → n + depthOf p ≤ room → Standing all m at n room
 standing all m at n room p b sorts many fits deep =
@@ -258,3 +271,83 @@ module _ (es : List Event) (rs : List Row) (room : ℕ) where
               ∙ ap (resume es rs η s) (combined-next (q .quantifier) u v (values (j + 1)) each ∙ ap (λ vs. combined (q .quantifier) u (quantified (q .quantifier) vs each)) (sym e));
           nearer = omega arith;
         }
+
+  -- At a row of a scope or a quantifier.
+  module _ (η : Variables) (at : ℕ) (w : Window) (s : List JudgingRow) (ok : Asking es rs room η at w s) where
+    abbrev From : Variables → Turn → List JudgingRow → Type 0
+    From θ t r = Onward es rs room θ t r (worth es rs η (Ask at w) s) (turnsLeft rs (Ask at w) s)
+
+    -- a row that binds finds room for its variable
+    pub binds : (p : Property) → propertyAt rs at ≡ p → ((sorts : Sorts) → wellScoped sorts p ≡ true → roomIn sorts ≡ true) → length η < 8
+    binds p e k =
+        let m = ok .stands .many in
+        let h : length (ok .stands .sorts) < 8 = ltb-true (length (ok .stands .sorts)) 8 (k (ok .stands .sorts) (subst (λ x. wellScoped (ok .stands .sorts) x ≡ true) e (ok .stands .fits))) in
+        omega arith
+
+    module _ (sc : Scoping) (t : Test) (p : Property) (is : propertyAt rs at ≡ scope (sc .side) (sc .pick) (sc .name) (sc .duration) t p)
+        (first : Begins rs (at + 1) (testRows t)) (second : Begins rs (sc .body) (rows p)) (test-at : sc .test ≡ at + 1) (body-at : sc .body ≡ at + 1 + length (testRows t)) where
+      pub scope-ready : PlacesReady es rs room (length η) (length s) sc w w
+      scope-ready =
+          let k = ok .stands in
+          let fits = and-parts _ _ (subst (λ x. wellScoped (k .sorts) x ≡ true) is (k .fits)) in
+          let inner-fits = and-parts _ _ (fits .1) in
+          let space : length (k .sorts) < 8 = ltb-true (length (k .sorts)) 8 (fits .0) in
+          let many = k .many in
+          let deep = subst (λ x. length s + depthOf x ≤ room) is (k .deep) in
+          let long = length-push (k .sorts) sort.Event in
+          record {
+            body = standing rs (length η + 1) (sc .body) (length s + 1) room p second (k .sorts with sort.Event) (omega arith) (inner-fits .1) (omega arith);
+            test = subst (λ i. Begins rs i (testRows (testAt rs i))) (sym test-at) (test-begins rs (at + 1) t first);
+            space = omega arith;
+            inside = ok .inside;
+            within = omega arith;
+          }
+
+      scope-worth : resume es rs η s (sweeping es rs sc η w None Holds w) ≡ worth es rs η (Ask at w) s
+      scope-worth =
+          ap (resume es rs η s)
+          (sweeps (sc .pick) w (delimiterTest es rs sc η) (inner es rs sc η w)
+          ∙ ap₂ (λ i x. scoped (sc .pick) w (asked es η i (sc .name) (testAt rs i)) (λ j. judged es (η ⊕ var.Event (eventAt es j)) (window (sc .side) (timeAt es) (sc .duration) j w) (sc .body) x)) test-at (property-is rs (sc .body) p second)
+          ∙ ap₂ (λ x i. scoped (sc .pick) w (asked es η (at + 1) (sc .name) x) (λ j. judged es (η ⊕ var.Event (eventAt es j)) (window (sc .side) (timeAt es) (sc .duration) j w) i p)) (test-is rs (at + 1) t first) body-at)
+          ∙ sym (ap (λ x. resume es rs η s (judged es η w at x)) is)
+
+      pub from-scope : length es ≤ 65535 → {θ : Variables} {u : Turn} {r : List JudgingRow} → Trying η s sc w w None Holds scope-ready (ok .waits) θ u r → From θ u r
+      from-scope small o =
+          let before : stepsAt rs at ≡ 2 + 65535 * (1 + steps p) = ap steps is in
+          let after : stepsAt rs (sc .body) ≡ steps p = ap steps (property-is rs (sc .body) p second) in
+          let i = ok .inside in
+          let most : (w .1 - w .0) * (1 + steps p) ≤ 65535 * (1 + steps p) = mul-le-mul-right (1 + steps p) (omega arith) in
+          let same : (w .1 - w .0) * (1 + stepsAt rs (sc .body)) ≡ (w .1 - w .0) * (1 + steps p) = ap (λ x. (w .1 - w .0) * (1 + x)) after in
+          reworded o scope-worth (omega arith)
+
+    module _ (q : Quantifying) (p : Property) (is : propertyAt rs at ≡ quantify (q .quantifier) (q .variable) (q .code) p)
+        (inner-begins : Begins rs (at + 1) (rows p)) (body-at : q .body ≡ at + 1) where
+      pub quantify-ready : ValuesReady es rs room (length η) (length s) q w
+      quantify-ready =
+          let k = ok .stands in
+          let fits = and-parts _ _ (subst (λ x. wellScoped (k .sorts) x ≡ true) is (k .fits)) in
+          let space : length (k .sorts) < 8 = ltb-true (length (k .sorts)) 8 (and-parts _ _ (fits .0) .1) in
+          let many = k .many in
+          let deep = subst (λ x. length s + depthOf x ≤ room) is (k .deep) in
+          let long = length-push (k .sorts) sort.Number in
+          record {
+            body = subst (λ i. Standing rs (length η + 1) i (length s + 1) room) (sym body-at) (standing rs (length η + 1) (at + 1) (length s + 1) room p inner-begins (k .sorts with sort.Number) (omega arith) (fits .1) (omega arith));
+            space = omega arith;
+            inside = ok .inside;
+          }
+
+      quantify-worth : resume es rs η s (gathering es rs q η w (start (q .quantifier)) 0) ≡ worth es rs η (Ask at w) s
+      quantify-worth =
+          let vs = codedFrom (q .code) (eventIn (bound η (q .variable))) 0 in
+          ap (resume es rs η s)
+          (combined-start (q .quantifier) _
+          ∙ ap (λ i. quantified (q .quantifier) vs (λ v. judgedAt es rs (η ⊕ var.Number v) w i)) body-at
+          ∙ ap (λ x. quantified (q .quantifier) vs (λ v. judged es (η ⊕ var.Number v) w (at + 1) x)) (property-is rs (at + 1) p inner-begins))
+          ∙ sym (ap (λ x. resume es rs η s (judged es η w at x)) is)
+
+      pub from-quantify : (v : Verdict) → v ≡ start (q .quantifier) → {θ : Variables} {u : Turn} {r : List JudgingRow} → Gathering η s q w 0 v quantify-ready (ok .waits) θ u r → From θ u r
+      from-quantify v e o =
+          let before : stepsAt rs at ≡ 2 + 4 * (1 + steps p) = ap steps is in
+          let after : stepsAt rs (q .body) ≡ steps p = ap (stepsAt rs) body-at ∙ ap steps (property-is rs (at + 1) p inner-begins) in
+          let same : 4 * (1 + stepsAt rs (q .body)) ≡ 4 * (1 + steps p) = ap (λ x. 4 * (1 + x)) after in
+          reworded o (ap (λ x. resume es rs η s (gathering es rs q η w x 0)) e ∙ quantify-worth) (omega arith)

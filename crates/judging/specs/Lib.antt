@@ -2,6 +2,7 @@ pub mod Answers
 pub mod Asking
 pub mod Bindings
 pub mod Extents
+pub mod Judging
 pub mod Machine
 pub mod Seeking
 pub mod Slots

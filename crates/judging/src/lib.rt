@@ -1,6 +1,7 @@
 pub mod asking;
 pub mod combine;
 pub mod extents;
+pub mod judge;
 pub mod known;
 pub mod machine;
 pub mod occurrence;

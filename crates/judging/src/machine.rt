@@ -255,3 +255,172 @@ fn tell_place<L: ReadingLog>(
         ),
     }
 }
+
+// One turn, where the property that `waiting` waits for has the verdict v.
+fn ascend<L: ReadingLog>(
+    log: &L,
+    rows: &[Row],
+    v: Verdict,
+    waiting: JudgingRow,
+    known: &mut Known,
+    stack: &mut Stack<JudgingRow>,
+) -> Turn
+    requires waits { ⌜ Waits (events (now log)) (now rows) (room (now stack)) (bindings (now known)) (waiting ∷ held (now stack)) ⌝ }
+    ensures onward { λ r. ⌜ OnwardTold (events (now (log .entry))) (now (rows .entry)) (room (now (stack .entry))) (bindings (now (known .entry))) v (waiting ∷ held (now (stack .entry))) (bindings (now (known .exit))) r (held (now (stack .exit))) ⌝ }
+    ensures space { λ _. ⌜ room (now (stack .exit)) ≡ room (now (stack .entry)) ⌝ }
+{
+    match waiting {
+        JudgingRow::Negation => Turn::Told { verdict: negate(v) },
+        JudgingRow::Left {
+            connective,
+            right,
+            window,
+            depth,
+        } => tell_left(log, rows, connective, right, window, depth, v, known, stack),
+        JudgingRow::Right { connective, left } => Turn::Told {
+            verdict: connect(connective, left, v),
+        },
+        JudgingRow::Values {
+            quantifying,
+            window,
+            depth,
+            next,
+            so_far,
+        } => tell_value(log, rows, quantifying, window, depth, next, so_far, v, known, stack),
+        JudgingRow::Places {
+            scoping,
+            window,
+            depth,
+            left,
+            test,
+            lowest,
+            so_far,
+        } => tell_place(
+            log,
+            rows,
+            scoping,
+            window,
+            depth,
+            left,
+            test,
+            lowest,
+            so_far,
+            v,
+            known,
+            stack,
+        ),
+    }
+}
+
+// One turn, at a row.
+fn descend<L: ReadingLog>(
+    log: &L,
+    rows: &[Row],
+    at: usize,
+    window: (u16, u16),
+    known: &mut Known,
+    stack: &mut Stack<JudgingRow>,
+) -> Turn
+    requires few { ⌜ length (now rows) ≤ 64 ⌝ }
+    requires within { ⌜ at < length (now rows) ⌝ }
+    requires valid { ⌜ Asking (events (now log)) (now rows) (room (now stack)) (bindings (now known)) at window (held (now stack)) ⌝ }
+    ensures onward { λ r. ⌜ OnwardAsked (events (now (log .entry))) (now (rows .entry)) (room (now (stack .entry))) (bindings (now (known .entry))) at window (held (now (stack .entry))) (bindings (now (known .exit))) r (held (now (stack .exit))) ⌝ }
+    ensures space { λ _. ⌜ room (now (stack .exit)) ≡ room (now (stack .entry)) ⌝ }
+{
+    let row = rows[at];
+    match row {
+        Row::Not => {
+            stack.push(JudgingRow::Negation);
+            Turn::Ask { at: at + 1, window }
+        }
+        Row::Connect { connective } => {
+            let right = behind(rows, at + 1);
+            let depth = known.depth();
+            stack.push(JudgingRow::Left {
+                connective,
+                right,
+                window,
+                depth,
+            });
+            Turn::Ask { at: at + 1, window }
+        }
+        Row::Occurrence { name, count } => Turn::Told {
+            verdict: occurs(log, rows, at + 1, name, count, window, known),
+        },
+        Row::Absence { name } => Turn::Told {
+            verdict: negate(occurs(log, rows, at + 1, name, 1, window, known)),
+        },
+        Row::Scope {
+            side,
+            pick,
+            name,
+            duration,
+        } => {
+            let scoping = Scoping {
+                side,
+                pick,
+                name,
+                duration,
+                test: at + 1,
+                body: behind(rows, at + 1),
+            };
+            try_next(log, rows, scoping, window, window, None, Verdict::Holds, known, stack)
+        }
+        Row::Quantify {
+            quantifier,
+            variable,
+            code,
+        } => {
+            let quantifying = Quantifying {
+                quantifier,
+                variable,
+                code,
+                body: at + 1,
+            };
+            next_value(rows, quantifying, window, 0, start_of(quantifier), known, stack)
+        }
+        _ => unreachable(),
+    }
+}
+
+// The verdict of the property at a row, over the whole log.
+pub(crate) fn run<L: ReadingLog>(
+    log: &L,
+    rows: &[Row],
+    at: usize,
+    work: &mut [JudgingRow],
+) -> Verdict
+    requires few { ⌜ length (now rows) ≤ 64 ⌝ }
+    requires stands { ⌜ Standing (now rows) 0 at 0 (length (now work)) ⌝ }
+    ensures { λ r. ⌜ r ≡ judgedAt (events (now (log .entry))) (now (rows .entry)) [] (0, length (events (now (log .entry)))) at ⌝ }
+{
+    let mut known = Known::nothing();
+    let mut stack = Stack::new(work);
+    let mut turn = Turn::Ask {
+        at,
+        window: (0, log.len()),
+    };
+    loop {
+        match turn {
+            Turn::Ask { at, window } => turn = descend(
+                log,
+                rows,
+                at,
+                window,
+                &mut known,
+                &mut stack,
+            ),
+            Turn::Told { verdict } => match stack.pop() {
+                None => return verdict,
+                Some(waiting) => turn = ascend(
+                    log,
+                    rows,
+                    verdict,
+                    waiting,
+                    &mut known,
+                    &mut stack,
+                ),
+            },
+        }
+    }
+}
