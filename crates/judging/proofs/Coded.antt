@@ -11,7 +11,7 @@ use Rattle.std.proofs.shelf.Lists.{drop-more, drop-all, getD-take, length-take}
 use Rattle.logs.specs.declared.event.Event.{Event}
 use Rattle.logs.specs.declared.event.Value.{Value}
 use Rattle.logs.specs.Events.{codeOf, used, empty, slotCount}
-use Rattle.judging.specs.Slots.{codedFrom}
+use Rattle.meaning.specs.Terms.{codedFrom}
 
 abbrev pub slot : Event → ℕ → Value
 slot e i = getD (e .slots) i empty

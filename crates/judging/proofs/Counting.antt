@@ -15,7 +15,7 @@ use Rattle.meaning.specs.declared.verdict.Verdict.the-variants.{Holds, Fails, O
 use Rattle.meaning.specs.Three.{holds?, possible?, count, originOr, firstOpen, atLeast3}
 use Rattle.meaning.specs.Windows.{upfrom, places}
 use Rattle.judging.specs.declared.tally.Tally.{Tally}
-use Rattle.judging.specs.Tallies.{nothing, noted, weighed, certain, ending}
+use Rattle.judging.specs.Tallies.{nothing, noted, weighed, unchanging, ending}
 
 module _ (n : ℕ) where
   -- the verdict where h and m more answers hold or are possible, the first open one of them being e
@@ -83,7 +83,7 @@ module _ {A : Type 0} (n : ℕ) (f : A → Verdict) where
   pub ending-next : (t : Tally) (x : A) (xs : List A) → ending n t (x ∷ xs) f ≡ ending n (noted (f x) t) xs f
   ending-next t x xs = closing-next n t _ _ _ (f x)
 
-  pub ending-certain : (t : Tally) (left : ℕ) (xs : List A) → length xs ≡ left → certain n left t ≡ true → ending n t xs f ≡ weighed n t
+  pub ending-certain : (t : Tally) (left : ℕ) (xs : List A) → length xs ≡ left → unchanging n left t ≡ true → ending n t xs f ≡ weighed n t
   ending-certain t left xs e h =
       let a = count-few (λ x. holds? (f x)) xs in
       let b = count-few (λ x. possible? (f x)) xs in

@@ -3,9 +3,8 @@ mod Coded
 mod Counting
 mod Endings
 mod Folding
-mod Joins
-mod Piling
 mod Halving
+mod Joins
 mod Rules
 mod Seeks
 mod Sweeps

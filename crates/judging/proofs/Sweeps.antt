@@ -18,7 +18,7 @@ use Rattle.meaning.specs.Windows.{Window, upfrom, places}
 use Rattle.meaning.specs.Verdicts.{delimits, blamedOn, scoped}
 use Rattle.meaning.proofs.Places.{places-next, and-holds, and-fails, fails-and, not-fails, not-holds, apart, all-push, all-holds, holds-all, all-fails, fails-all}
 use Rattle.judging.specs.declared.sweep.Outcome.the-variants.{Settled, SoFar}
-use Rattle.judging.specs.Sweeps.{downto, order, doubted, closed, former, absorbed, swept, Sweeps}
+use Rattle.judging.specs.Sweeps.{downto, order, doubted, closed, former, absorbed, swept}
 
 -- the origin that is known already, else another
 abbrev from : Option Origin → Origin → Origin
@@ -370,5 +370,5 @@ all-tried Last w f p l =
     last-sure w f p (w .1 - w .0) (omega arith) (rw (z, y))
 all-tried Each w f p l = each-sweeps f p None (places (w .0) (w .1)) _ refl
 
-pub sweeps : Sweeps
+pub sweeps : (o : Pick) (w : Window) (f p : ℕ → Verdict) → swept o f p None Holds (order o w) ≡ scoped o w f p
 sweeps o w f p = elim (cases-lt (w .0) (w .1)) [ inl l ↦ all-tried o w f p l | inr l ↦ none-tried o w f p l ]

@@ -48,7 +48,7 @@ use Rattle.judging.specs.declared.working.Scoping.{Scoping}
 use Rattle.judging.specs.declared.working.Turn.{Turn}
 use Rattle.judging.specs.declared.working.Turn.the-variants.{Ask, Told}
 use Rattle.judging.specs.Seeking.{delimiterTest, FoundAt}
-use Rattle.judging.specs.Slots.{codedFrom}
+use Rattle.meaning.specs.Terms.{codedFrom}
 use Rattle.judging.specs.Sweeps.{order, doubted, closed, absorbed, swept}
 use Rattle.judging.specs.Machine.{decided, start, combined, settles, judgedAt, inner, sweeping, continued, gathering, resume, worth, steps, stepsAt, pending, turnsLeft, depthOf, Standing, ValuesReady, PlacesReady, RightReady, Waits, Asking, Onward}
 use Rattle.judging.proofs.Binding.{forgotten}

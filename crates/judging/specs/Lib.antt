@@ -1,11 +1,9 @@
 pub mod Answers
-pub mod Asking
 pub mod Bindings
 pub mod Extents
 pub mod Judging
 pub mod Machine
 pub mod Seeking
 pub mod Slots
-pub mod Stacks
 pub mod Sweeps
 pub mod Tallies

@@ -35,7 +35,7 @@ use Rattle.judging.specs.declared.working.Quantifying.{Quantifying}
 use Rattle.judging.specs.declared.working.Scoping.{Scoping}
 use Rattle.judging.specs.declared.working.Turn.{Turn}
 use Rattle.judging.specs.declared.working.Turn.the-variants.{Ask, Told}
-use Rattle.judging.specs.Slots.{codedFrom}
+use Rattle.meaning.specs.Terms.{codedFrom}
 use Rattle.judging.specs.Seeking.{delimiterTest}
 use Rattle.judging.specs.Sweeps.{order, absorbed, swept}
 

@@ -1,5 +1,4 @@
 -- A scope judged at one possible delimiter after another, rising for first and each, falling for last.
-use mathlib.Core.Path.{_≡_}
 use mathlib.Core.List.{List, [], _∷_}
 use mathlib.Core.Bool.{cond}
 use Prim.Native.Nat.{ℕ, zero, suc, _+_, _-_}
@@ -12,7 +11,6 @@ use Rattle.meaning.specs.declared.verdict.Verdict.{Verdict}
 use Rattle.meaning.specs.declared.verdict.Verdict.the-variants.{Holds, Fails, Open}
 use Rattle.meaning.specs.Three.{possible?}
 use Rattle.meaning.specs.Windows.{Window, places}
-use Rattle.meaning.specs.Verdicts.{scoped}
 use Rattle.judging.specs.declared.sweep.Outcome.{Outcome}
 use Rattle.judging.specs.declared.sweep.Outcome.the-variants.{Settled, SoFar}
 
@@ -73,7 +71,3 @@ swept o f p d s (i ∷ is) =
     cond (possible? (f i))
     (elim (absorbed o (f i) (doubted o (f i) d) s (p i)) [ Settled v ↦ v | SoFar u ↦ swept o f p (doubted o (f i) d) u is ])
     (swept o f p d s is)
-
--- that is the verdict of the scope
-abbrev pub Sweeps : Type 0
-Sweeps = (o : Pick) (w : Window) (f p : ℕ → Verdict) → swept o f p None Holds (order o w) ≡ scoped o w f p

@@ -21,8 +21,8 @@ abbrev pub weighed : (n : ℕ) → Tally → Verdict
 weighed n t = cond (leb n (t .yes)) Holds (cond (ltb (t .yes + t .«open») n) Fails (Open (t .first)))
 
 -- `left` more answers cannot change the verdict
-abbrev pub certain : (n left : ℕ) → Tally → Bool
-certain n left t =
+abbrev pub unchanging : (n left : ℕ) → Tally → Bool
+unchanging n left t =
     leb n (t .yes) || (ltb (t .yes + t .«open» + left) n || (ltb (t .yes + left) n && leb n (t .yes + t .«open»)))
 
 -- the verdict with the answers of a list still to come

@@ -9,7 +9,7 @@ ghost use Rattle.meaning.specs.Terms.{_⊕_};
 ghost use Rattle.rules.specs.Trees.{Begins, testRows};
 ghost use Rattle.rules.specs.Forest.{testAt};
 ghost use Rattle.judging.specs.Bindings.{bindings};
-ghost use Rattle.judging.specs.Asking.{answerFor};
+ghost use Rattle.meaning.specs.Terms.{answerFor};
 use crate::known::Known;
 use crate::testing::test;
 use logs::event::Event;

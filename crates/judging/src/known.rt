@@ -2,16 +2,15 @@
 ghost use mathlib.Core.Path.{_≡_};
 ghost use Prim.Native.Nat.{_≤_};
 ghost use lib.ListN.{length};
+ghost use Rattle.rules.specs.Limits.{deepest};
 use meaning::verdict::Variable;
-
-// At most so many rows that bind enclose one another.
-pub const DEEPEST: usize = 8;
+use rules::limits::DEEPEST;
 
 #[derive(Clone, Copy)]
 pub struct Known {
     variables: [Variable; DEEPEST],
     count: usize,
-    ghost few: { (count ≤ 8) × (length variables ≡ 8) },
+    ghost few: { (count ≤ deepest) × (length variables ≡ deepest) },
 }
 
 mod methods;

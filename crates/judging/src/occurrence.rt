@@ -1,14 +1,14 @@
 // How often a test is yes in a window.
 ghost use mathlib.Core.Path.{_≡_};
-ghost use Prim.Native.Nat.{_+_, _-_, _<_, _≤_};
+ghost use Prim.Native.Nat.{_+_, _<_};
 ghost use lib.ListN.{length};
-ghost use Rattle.meaning.specs.Three.{atLeast3, nowhere};
+ghost use Rattle.meaning.specs.Three.{atLeast3};
 ghost use Rattle.meaning.specs.Terms.{asked};
 ghost use Rattle.meaning.specs.Windows.{within};
 ghost use Rattle.rules.specs.Trees.{Begins, testRows};
 ghost use Rattle.rules.specs.Forest.{testAt};
 ghost use Rattle.judging.specs.Bindings.{bindings};
-ghost use Rattle.judging.specs.Tallies.{noted, weighed, certain};
+ghost use Rattle.judging.specs.Tallies.{noted, weighed, unchanging};
 use crate::asking::ask;
 use crate::known::Known;
 use crate::tally::Tally;
@@ -52,8 +52,8 @@ fn weigh(tally: Tally, count: u16) -> Verdict
 }
 
 // Whether `left` more tests cannot change the verdict.
-fn is_certain(tally: Tally, left: u16, count: u16) -> bool
-    ensures { λ r. ⌜ r ≡ certain count left tally ⌝ }
+fn is_unchanging(tally: Tally, left: u16, count: u16) -> bool
+    ensures { λ r. ⌜ r ≡ unchanging count left tally ⌝ }
 {
     let yes = tally.yes as u32;
     let open = tally.open as u32;
@@ -62,7 +62,7 @@ fn is_certain(tally: Tally, left: u16, count: u16) -> bool
     count <= yes || yes + open + left < count || (yes + left < count && count <= yes + open)
 }
 
-// Whether at least `count` tests of the window are yes. It stops as soon as that is certain.
+// Whether at least `count` tests of the window are yes. It stops as soon as further tests cannot change the verdict.
 pub(crate) fn occurs<L: ReadingLog>(
     log: &L,
     rows: &[Row],
@@ -89,7 +89,7 @@ pub(crate) fn occurs<L: ReadingLog>(
         },
     };
     for place in from..to {
-        if is_certain(tally, to - place, count) {
+        if is_unchanging(tally, to - place, count) {
             return weigh(tally, count);
         }
         let answer = ask(rows, at, name, event_at(log, place), place, known);

@@ -18,6 +18,13 @@ pub(crate) fn event_at<L: ReadingLog>(log: &L, place: u16) -> Event
     log.get(place).unwrap_or(Event::blank())
 }
 
+// Whether a time is below a limit.
+fn is_below(time: u32, limit: u64) -> bool
+    ensures { λ r. ⌜ r ≡ ltb time limit ⌝ }
+{
+    (time as u64) < limit
+}
+
 // The first place of the window with a time of at least `limit`, found by halving, or the window's end.
 fn first_from<L: ReadingLog>(log: &L, limit: u64, window: (u16, u16)) -> u16
     requires { ⌜ window .1 ≤ length (events (now log)) ⌝ }
@@ -26,7 +33,7 @@ fn first_from<L: ReadingLog>(log: &L, limit: u64, window: (u16, u16)) -> u16
     let (mut low, mut high) = window;
     while low < high {
         let middle = low + (high - low) / 2;
-        if (event_at(log, middle).time as u64) < limit {
+        if is_below(event_at(log, middle).time, limit) {
             low = middle + 1;
         } else {
             high = middle;

@@ -3,7 +3,7 @@ use mathlib.Core.Bool.{Bool, true, false, _&&_}
 use mathlib.Core.List.{List, [], _∷_}
 use Prim.Native.Nat.{ℕ, _+_, min}
 use lib.Dec.{leb, ltb, eqb}
-use lib.ListN.{take, getD, replicate}
+use lib.ListN.{take, getD}
 use Rattle.logs.specs.declared.event.Event.{Event}
 use Rattle.logs.specs.declared.event.Value.{Value}
 use Rattle.logs.specs.declared.event.Value.the-variants.{Unread, Read}

@@ -1,10 +1,9 @@
 -- What terms and tests say, with the events and numbers that their variables stand for.
-use mathlib.Core.Path.{_≡_}
 use mathlib.Core.List.{List, [], _∷_, _++_}
 use mathlib.Core.Bool.{Bool, true, false, cond, _&&_}
 use Prim.Native.Nat.{ℕ, suc, zero, _+_}
 use lib.Dec.{eqb}
-use lib.ListN.{length, getD}
+use lib.ListN.{length, getD, drop}
 use lib.IntN.{ℤ, pos, negsuc, _+ℤ_, _-ℤ_, _*ℤ_}
 use lib.Signed.{leZ, ltZ, quotZ}
 use Rattle.std.specs.declared.result.Result.{Result}
@@ -30,7 +29,6 @@ use Rattle.meaning.specs.declared.verdict.Verdict.the-variants.{Holds, Fails, 
 use Rattle.meaning.specs.Three.{not3, and3, or3, filter}
 
 infixl 65 _⊕_
-
 -- the number that each cause has in a report
 abbrev pub causeNumber : Cause → ℕ
 causeNumber cause.Missing = 1
@@ -48,6 +46,7 @@ Variables = List Variable
 abbrev pub _⊕_ : Variables → Variable → Variables
 η ⊕ x = η ++ (x ∷ [])
 
+-- what a variable stands for; a rule of a sheet names only known variables, so the defaults here are never met
 abbrev pub bound : Variables → ℕ → Variable
 bound η a = getD η a (var.Event blank)
 
@@ -59,9 +58,12 @@ abbrev pub valueIn : Variable → Value
 valueIn (var.Event e) = empty
 valueIn (var.Number v) = v
 
--- the values of one code, in slot order
-abbrev pub coded : ℕ → Event → List Value
-coded b e = filter (λ v. eqb (codeOf v) b) (used e)
+-- the values of one code, in slot order, from a slot on, and all of them
+abbrev pub codedFrom : (code : ℕ) → Event → (slot : ℕ) → List Value
+codedFrom b e k = filter (λ v. eqb (codeOf v) b) (drop k (used e))
+
+abbrev pub coded : (code : ℕ) → Event → List Value
+coded b e = codedFrom b e 0
 
 -- Terms.
 
@@ -136,5 +138,8 @@ tested η i r (join j t u) = joined j (tested η i (r + 1) t) (tested η i (r + 
 tested η i r (compare s t u) = compared s (reckoned η i (r + 1) t) (reckoned η i (r + 1 + length (termRows t)) u)
 
 -- the test of a row at a place: no if the event's name differs, else its test with that event bound
+abbrev pub answerFor : Event → Variables → (row name : ℕ) → Test → (place : ℕ) → Verdict
+answerFor e η r a t i = cond (eqb (e .name) a) (tested (η ⊕ var.Event e) i r t) Fails
+
 abbrev pub asked : List Event → Variables → (row name : ℕ) → Test → (place : ℕ) → Verdict
-asked es η r a t i = cond (eqb (eventAt es i .name) a) (tested (η ⊕ var.Event (eventAt es i)) i r t) Fails
+asked es η r a t i = answerFor (eventAt es i) η r a t i

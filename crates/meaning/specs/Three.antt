@@ -1,7 +1,7 @@
 -- Three-valued answers: their connectives, and the same over lists.
 use mathlib.Core.List.{List, [], _∷_}
 use mathlib.Core.Bool.{Bool, true, false, cond}
-use Prim.Native.Nat.{ℕ, suc, zero, _+_, _-_}
+use Prim.Native.Nat.{ℕ, suc}
 use lib.Dec.{leb, ltb}
 use Rattle.meaning.specs.declared.verdict.Cause.the-variants.{Missing}
 use Rattle.meaning.specs.declared.verdict.Origin.{Origin}
@@ -28,6 +28,7 @@ or3 v w = not3 (and3 (not3 v) (not3 w))
 abbrev pub implies3 : Verdict → Verdict → Verdict
 implies3 v w = or3 (not3 v) w
 
+-- the same for each of a list, and for one of a list
 abbrev pub all3 : {A : Type 0} → List A → (A → Verdict) → Verdict
 all3 [] f = Holds
 all3 (x ∷ xs) f = and3 (f x) (all3 xs f)
@@ -35,6 +36,7 @@ all3 (x ∷ xs) f = and3 (f x) (all3 xs f)
 abbrev pub any3 : {A : Type 0} → List A → (A → Verdict) → Verdict
 any3 xs f = not3 (all3 xs (λ x. not3 (f x)))
 
+-- yes, and other than no
 abbrev pub holds? : Verdict → Bool
 holds? Holds = true
 holds? Fails = false

@@ -7,6 +7,7 @@ use Rattle.rules.specs.declared.row.Side.{Side}
 use Rattle.rules.specs.declared.row.Side.the-variants.{After, Before, Given}
 use Rattle.meaning.specs.Three.{count}
 
+-- from a place up to another, which is outside
 abbrev pub Window : Type 0
 Window = ℕ × ℕ
 
@@ -28,9 +29,8 @@ within w = places (w .0) (w .1)
 abbrev pub near : (d t u : ℕ) → Bool
 near d t u = ltb u (t + d)
 
--- The window that a scope judges at place i of w, by the times at the places.
--- A duration of 0 is none. Any other keeps the events behind i that come less than d after it,
--- or passes over the events before i that it does not follow in less than d.
+-- The window that a scope judges at place i of w, by the times t of the places. A duration d of 0 is none.
+-- After i, a duration counts in the places j with t j below t i + d; before i, it passes over those with t j + d at most t i.
 abbrev pub window : Side → (times : ℕ → ℕ) → (duration place : ℕ) → Window → Window
 window After t d i w = (i + 1, cond (eqb d 0) (w .1) (i + 1 + count (λ j. near d (t i) (t j)) (places (i + 1) (w .1))))
 window Before t d i w = (cond (eqb d 0) (w .0) (w .0 + count (λ j. not (near d (t j) (t i))) (places (w .0) i)), i)

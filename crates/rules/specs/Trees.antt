@@ -1,7 +1,7 @@
 -- Rules as trees, and the rows that write them.
 use mathlib.Core.Path.{_≡_}
 use mathlib.Core.List.{List, [], _∷_, _++_}
-use Prim.Native.Nat.{ℕ, suc, _+_, max}
+use Prim.Native.Nat.{ℕ, suc, _+_}
 use lib.IntN.{ℤ}
 use lib.ListN.{drop}
 use Rattle.rules.specs.declared.row.Connective.{Connective}

@@ -1,13 +1,14 @@
-// What `bindings` reads off a list of known variables.
+// Variables bound and forgotten; `bindings` is the list of those that are known.
 ghost use mathlib.Core.Path.{_≡_};
 ghost use mathlib.Core.List.{[], _∷_, _++_};
-ghost use Prim.Native.Nat.{_-_, _<_};
+ghost use Prim.Native.Nat.{_<_};
 ghost use lib.ListN.{length, take};
+ghost use Rattle.rules.specs.Limits.{deepest};
 ghost use Rattle.judging.specs.Bindings.{bindings};
-use crate::known::DEEPEST;
 use crate::known::Known;
 use logs::event::Value;
 use meaning::verdict::Variable;
+use rules::limits::DEEPEST;
 
 impl Known {
     pub(crate) fn nothing() -> Known
@@ -33,7 +34,7 @@ impl Known {
 
     // One more variable, the innermost.
     pub(crate) fn bind(&mut self, variable: Variable)
-        requires { ⌜ length (bindings (now self)) < 8 ⌝ }
+        requires { ⌜ length (bindings (now self)) < deepest ⌝ }
         ensures { λ _. ⌜ bindings (now (self .exit)) ≡ bindings (now (self .entry)) ++ (variable ∷ []) ⌝ }
     {
         self.variables[self.count] = variable;

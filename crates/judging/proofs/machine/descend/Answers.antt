@@ -20,9 +20,9 @@ use Rattle.judging.specs.declared.working.Quantifying.{Quantifying}
 use Rattle.judging.specs.declared.working.Scoping.{Scoping}
 use Rattle.judging.specs.Bindings.{bindings}
 use Rattle.judging.specs.Machine.{steps, depthOf}
-use Rattle.judging.specs.Stacks.{held, room}
+use Rattle.stacks.specs.Stacks.{held, room}
 use Rattle.judging.proofs.Endings.{test-part, property-part, part-ends, part-end}
-use Rattle.judging.proofs.Piling.{with-room}
+use Rattle.stacks.proofs.Piling.{with-room}
 use Rattle.judging.proofs.Turns.{no-property, test-is, test-begins, onto, on-not, on-connect, on-leaf, binds, scope-ready, from-scope, quantify-ready, from-quantify}
 use Rattle.judging.proofs.machine.descend.Needs as need
 

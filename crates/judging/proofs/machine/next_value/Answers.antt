@@ -6,9 +6,10 @@ use lib.ListN.{length}
 use Rattle.meaning.specs.Terms.{bound, eventIn}
 use Rattle.judging.specs.declared.working.JudgingRow.the-variants.{Values}
 use Rattle.judging.specs.Bindings.{bindings}
-use Rattle.judging.specs.Slots.{codedFrom, NextCoded}
-use Rattle.judging.specs.Stacks.{held, room}
-use Rattle.judging.proofs.Piling.{with-room}
+use Rattle.judging.specs.Slots.{NextCoded}
+use Rattle.meaning.specs.Terms.{codedFrom}
+use Rattle.stacks.specs.Stacks.{held, room}
+use Rattle.stacks.proofs.Piling.{with-room}
 use Rattle.judging.proofs.Turns.{onto, no-value, next-value}
 use Rattle.judging.proofs.machine.next_value.Needs as need
 

@@ -3,7 +3,7 @@ use borrow.Author.Needs.{needs}
 use Rattle.rules.proofs.Heads.{property-within}
 use Rattle.judging.specs.Bindings.{bindings}
 use Rattle.judging.specs.Machine.{Valid}
-use Rattle.judging.specs.Stacks.{held, room}
+use Rattle.stacks.specs.Stacks.{held, room}
 use Rattle.judging.proofs.machine.run.Needs as need
 
 pub descend-turn-requires : need.descend-turn-requires

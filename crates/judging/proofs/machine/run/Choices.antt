@@ -3,7 +3,7 @@ use mathlib.Core.List.{[]}
 use lib.ListN.{length}
 use Rattle.judging.specs.Bindings.{bindings}
 use Rattle.judging.specs.Machine.{Valid, worth, turnsLeft}
-use Rattle.judging.specs.Stacks.{held, room}
+use Rattle.stacks.specs.Stacks.{held, room}
 use Rattle.judging.proofs.machine.run.Given as given
 
 abbrev pub Inv-loop-turn : given.InvT-loop-turn

@@ -6,9 +6,9 @@ use lib.ListN.{length}
 use Rattle.judging.specs.declared.working.JudgingRow.the-variants.{Places}
 use Rattle.judging.specs.declared.working.Turn.the-variants.{Ask}
 use Rattle.judging.specs.Bindings.{bindings}
-use Rattle.judging.specs.Stacks.{held, room}
+use Rattle.stacks.specs.Stacks.{held, room}
 use Rattle.judging.specs.Sweeps.{doubted}
-use Rattle.judging.proofs.Piling.{with-room}
+use Rattle.stacks.proofs.Piling.{with-room}
 use Rattle.judging.proofs.Turns.{onto, next-found}
 use Rattle.judging.proofs.machine.try_next.Needs as need
 

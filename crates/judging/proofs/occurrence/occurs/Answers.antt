@@ -10,7 +10,7 @@ use Rattle.meaning.specs.declared.verdict.Variable.the-variants.{Event}
 use Rattle.meaning.specs.Terms.{_⊕_, asked}
 use Rattle.meaning.specs.Windows.{places}
 use Rattle.meaning.proofs.Places.{places-next}
-use Rattle.judging.specs.Asking.{answerFor}
+use Rattle.meaning.specs.Terms.{answerFor}
 use Rattle.judging.specs.Bindings.{bindings}
 use Rattle.judging.specs.Tallies.{noted, ending}
 use Rattle.judging.proofs.Binding.{forgotten-if}
@@ -44,13 +44,13 @@ loop-place-again g c =
       omega (arith, most′),
     )
 
-pub returns-then-is-certain : need.returns-then-is-certain
-returns-then-is-certain g c =
+pub returns-then-is-unchanging : need.returns-then-is-unchanging
+returns-then-is-unchanging g c =
     let f = asked (g .L·ReadingLog .events (c .args .log .now)) (bindings (c .args .known .now)) (c .args .at) (c .args .name) (testAt (c .args .rows .now) (c .args .at)) in
     let n = c .args .count in
     record {
       answer = c .weigh .ensures
-          ∙ sym (ending-certain n f (c .loop-place .tally) _ _ (places-many (c .loop-place .place) (c .args .window .1)) (sym (c .if-is-certain .ensures tt)))
+          ∙ sym (ending-certain n f (c .loop-place .tally) _ _ (places-many (c .loop-place .place) (c .args .window .1)) (sym (c .if-is-unchanging .ensures tt)))
           ∙ c .loop-place .inv .1 ∙ ending-start n f _;
       known = c .loop-place .inv .0;
     }

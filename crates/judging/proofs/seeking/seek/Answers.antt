@@ -7,7 +7,7 @@ use lib.ListN.{take}
 use Rattle.rules.specs.Forest.{testAt}
 use Rattle.meaning.specs.declared.verdict.Variable.the-variants.{Event}
 use Rattle.meaning.specs.Terms.{_⊕_}
-use Rattle.judging.specs.Asking.{answerFor}
+use Rattle.meaning.specs.Terms.{answerFor}
 use Rattle.judging.specs.Bindings.{bindings}
 use Rattle.judging.specs.Seeking.{delimiterTest}
 use Rattle.judging.specs.Sweeps.{swept}

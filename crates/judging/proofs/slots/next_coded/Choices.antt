@@ -1,6 +1,6 @@
 use mathlib.Core.Path.{_≡_}
 use Prim.Native.Nat.{_-_, _≤_}
-use Rattle.judging.specs.Slots.{codedFrom}
+use Rattle.meaning.specs.Terms.{codedFrom}
 use Rattle.judging.proofs.slots.next_coded.Given as given
 
 abbrev pub Inv-loop-i : given.InvT-loop-i

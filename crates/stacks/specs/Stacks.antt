@@ -7,7 +7,7 @@ use lib.ListN.{take, length}
 use denote.Ref.{now}
 use Rattle.std.specs.declared.option.Option.{Option}
 use Rattle.std.specs.declared.option.Option.the-variants.{Some, None}
-use Rattle.judging.specs.declared.stack.Stack.{Stack}
+use Rattle.stacks.specs.declared.Stack.{Stack}
 
 abbrev pub pile : {T : Type 0} → ℕ → List T → List T
 pile used slots = reverse (take used slots)

@@ -2,9 +2,9 @@ use borrow.Author.Needs.{needs}
 use mathlib.Core.Path.{refl, sym, ap, _∙_}
 use mathlib.Core.Bool.{cond}
 use mathlib.Core.List.{_∷_}
-use Rattle.judging.specs.Stacks.{held}
-use Rattle.judging.proofs.Piling.{pile-push, has-room, no-room}
-use Rattle.judging.proofs.stack.Stack.push.Needs as need
+use Rattle.stacks.specs.Stacks.{held}
+use Rattle.stacks.proofs.Piling.{pile-push, has-room, no-room}
+use Rattle.stacks.proofs.Stack.push.Needs as need
 
 pub returns-then-self : need.returns-then-self
 returns-then-self g c =

@@ -1,8 +1,8 @@
 use borrow.Author.Needs.{needs}
 use mathlib.Core.Path.{refl, sym, ap}
-use Rattle.judging.specs.Stacks.{headOf, tailOf}
-use Rattle.judging.proofs.Piling.{pile-pop}
-use Rattle.judging.proofs.stack.Stack.pop.Needs as need
+use Rattle.stacks.specs.Stacks.{headOf, tailOf}
+use Rattle.stacks.proofs.Piling.{pile-pop}
+use Rattle.stacks.proofs.Stack.pop.Needs as need
 
 pub returns : need.returns
 returns g c =

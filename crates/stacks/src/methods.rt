@@ -1,13 +1,13 @@
-// `held` is what a stack holds, the newest item first, and `room` how many items it has place for.
+// What a stack holds, the newest item first, and for how many items it has room.
 ghost use mathlib.Core.Path.{_≡_};
-ghost use mathlib.Core.List.{[], _∷_};
+ghost use mathlib.Core.List.{[]};
 ghost use lib.Dec.{ltb};
 ghost use lib.ListN.{length};
-ghost use mathlib.Core.Bool.{cond};
-ghost use Rattle.judging.specs.Stacks.{held, room, withItem, headOf, tailOf};
-use super::Stack;
+ghost use Rattle.stacks.specs.Stacks.{held, room, withItem, headOf, tailOf};
+use crate::Stack;
 
 impl<'a, T: Copy> Stack<'a, T> {
+    // An empty stack. It may write to any of the slots.
     pub fn new(slots: &'a mut [T]) -> Stack<'a, T>
         ensures items { λ r. ⌜ held r ≡ [] ⌝ }
         ensures space { λ r. ⌜ room r ≡ length (now (slots .entry)) ⌝ }
@@ -15,7 +15,7 @@ impl<'a, T: Copy> Stack<'a, T> {
         Stack { slots, used: 0 }
     }
 
-    // Whether there was room for the item. A full stack stays as it was.
+    // Puts an item on top, and answers whether there was room. A full stack stays as it was.
     pub fn push(&mut self, item: T) -> bool
         ensures answer { λ r. ⌜ r ≡ ltb (length (held (now (self .entry)))) (room (now (self .entry))) ⌝ }
         ensures items { λ _. ⌜ held (now (self .exit)) ≡ withItem (room (now (self .entry))) item (held (now (self .entry))) ⌝ }
@@ -30,7 +30,7 @@ impl<'a, T: Copy> Stack<'a, T> {
         }
     }
 
-    // The newest item, or none.
+    // Takes the newest item off, if there is one.
     pub fn pop(&mut self) -> Option<T>
         ensures answer { λ r. ⌜ r ≡ headOf (held (now (self .entry))) ⌝ }
         ensures items { λ _. ⌜ held (now (self .exit)) ≡ tailOf (held (now (self .entry))) ⌝ }

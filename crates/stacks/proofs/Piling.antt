@@ -9,8 +9,8 @@ use lib.ListN.{length, getD, set, take}
 use borrow.Author.Tests.{lt-ltb, le-ltb}
 use Rattle.std.proofs.shelf.Lists.{take-more, take-more-set, reverse-append, length-reverse, length-take-le}
 use denote.Ref.{now}
-use Rattle.judging.specs.declared.stack.Stack.{Stack}
-use Rattle.judging.specs.Stacks.{pile, held, room, withItem}
+use Rattle.stacks.specs.declared.Stack.{Stack}
+use Rattle.stacks.specs.Stacks.{pile, held, room, withItem}
 
 pub pile-push : {T : Type 0} (used : ℕ) (slots : List T) (x : T) → used < length slots → pile (used + 1) (set slots used x) ≡ x ∷ pile used slots
 pile-push used slots x h = ap reverse (take-more-set slots used x h) ∙ reverse-append (take used slots) (x ∷ [])
