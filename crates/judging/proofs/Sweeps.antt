@@ -18,7 +18,7 @@ use Rattle.meaning.specs.Windows.{Window, upfrom, places}
 use Rattle.meaning.specs.Verdicts.{delimits, blamedOn, scoped}
 use Rattle.meaning.proofs.Places.{places-next, and-holds, and-fails, fails-and, not-fails, not-holds, apart, all-push, all-holds, holds-all, all-fails, fails-all}
 use Rattle.judging.specs.declared.sweep.Outcome.the-variants.{Settled, SoFar}
-use Rattle.judging.specs.Sweeps.{downto, order, doubted, closed, former, absorbed, swept}
+use Rattle.judging.specs.Sweeps.{downto, order, doubted, closed, former, absorbed, needed, swept}
 
 -- the origin that is known already, else another
 abbrev from : Option Origin → Origin → Origin
@@ -83,9 +83,9 @@ module _ (f p : ℕ → Verdict) where
       go Holds e Holds k h = simp (e, k) (h d)
       go Holds e Fails k h = rw (e, k)
       go Holds e (Open r) k h = simp (e, k) (h d ∙ again q r (every f p xs))
-      go (Open t) e Holds k h = rw (e, k) (h _)
-      go (Open t) e Fails k h = rw (e, k) (h _ ∙ again q t (every f p xs))
-      go (Open t) e (Open r) k h = rw (e, k) (h _ ∙ again q t (every f p xs))
+      go (Open t) e Holds k h = rw (e, k) (h d)
+      go (Open t) e Fails k h = rw (e, k) (h d ∙ again q t (every f p xs))
+      go (Open t) e (Open r) k h = rw (e, k) (h d ∙ again q t (every f p xs))
 
   each-sweeps : (d : Option Origin) (xs : List ℕ) (o : Origin) → o ≡ from d (firstOpen (among f xs) f) →
       swept Each f p d Holds xs ≡ settle (blamedOn o (among f xs) p) (every f p xs)
@@ -185,7 +185,7 @@ former-last (Open q) = refl
 
 -- one more place is tried, by its test v, what is judged there and what the places behind it make of that
 abbrev onward : Pick → (v u : Verdict) → Option Origin → Verdict → (Option Origin → Verdict → Verdict) → Verdict
-onward o v u d s k = cond (possible? v) (elim (absorbed o v (doubted o v d) s u) [ Settled r ↦ r | SoFar t ↦ k (doubted o v d) t ]) (k d s)
+onward o v u d s k = cond (needed o s v) (elim (absorbed o v (doubted o v d) s u) [ Settled r ↦ r | SoFar t ↦ k (doubted o v d) t ]) (k d s)
 
 tried : (o : Pick) (f p : ℕ → Verdict) (d : Option Origin) (s : Verdict) (x : ℕ) (xs : List ℕ) (v : Verdict) → f x ≡ v →
     swept o f p d s (x ∷ xs) ≡ onward o v (p x) d s (λ d s. swept o f p d s xs)

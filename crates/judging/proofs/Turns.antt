@@ -34,7 +34,7 @@ use Rattle.meaning.specs.declared.verdict.Variable.{Variable}
 use Rattle.meaning.specs.declared.verdict.Variable.the-variants as var
 use Rattle.meaning.specs.declared.verdict.Verdict.{Verdict}
 use Rattle.meaning.specs.declared.verdict.Verdict.the-variants.{Holds, Fails, Open}
-use Rattle.meaning.specs.Three.{not3, count, possible?, atLeast3}
+use Rattle.meaning.specs.Three.{not3, count}
 use Rattle.meaning.specs.Terms.{Variables, _⊕_, asked, bound, eventIn}
 use Rattle.meaning.specs.Windows.{Window, window, places, upfrom, near, within}
 use Rattle.meaning.specs.Verdicts.{connected, quantified, scoped, judged}
@@ -49,7 +49,7 @@ use Rattle.judging.specs.declared.working.Turn.{Turn}
 use Rattle.judging.specs.declared.working.Turn.the-variants.{Ask, Told}
 use Rattle.judging.specs.Seeking.{delimiterTest, FoundAt}
 use Rattle.meaning.specs.Terms.{codedFrom}
-use Rattle.judging.specs.Sweeps.{order, doubted, closed, absorbed, swept}
+use Rattle.judging.specs.Sweeps.{order, doubted, closed, absorbed, needed, swept}
 use Rattle.judging.specs.Machine.{decided, start, combined, settles, judgedAt, inner, sweeping, continued, gathering, resume, worth, steps, stepsAt, pending, turnsLeft, depthOf, Standing, ValuesReady, PlacesReady, RightReady, Waits, Asking, Onward}
 use Rattle.judging.proofs.Binding.{forgotten}
 use Rattle.judging.proofs.Counting.{count-few, places-many}
@@ -123,10 +123,10 @@ window-inside Before t d i w h = omega arith
 window-inside Given t d i w h = omega arith
 
 -- the first of the places still to be tried, where its test is other than no
-sweep-on : (o : Pick) (f p : ℕ → Verdict) (d : Option Origin) (s : Verdict) (i : ℕ) (is : List ℕ) (v : Verdict) → v ≡ f i → possible? v ≡ true →
+sweep-on : (o : Pick) (f p : ℕ → Verdict) (d : Option Origin) (s : Verdict) (i : ℕ) (is : List ℕ) (v : Verdict) → v ≡ f i → needed o s v ≡ true →
     swept o f p d s (i ∷ is) ≡ elim (absorbed o v (doubted o v d) s (p i)) [ Settled u ↦ u | SoFar u ↦ swept o f p (doubted o v d) u is ]
 sweep-on o f p d s i is v e h =
-    ap (λ x. cond (possible? x) (elim (absorbed o x (doubted o x d) s (p i)) [ Settled u ↦ u | SoFar u ↦ swept o f p (doubted o x d) u is ]) (swept o f p d s is)) (sym e)
+    ap (λ x. cond (needed o s x) (elim (absorbed o x (doubted o x d) s (p i)) [ Settled u ↦ u | SoFar u ↦ swept o f p (doubted o x d) u is ]) (swept o f p d s is)) (sym e)
     ∙ ap (λ b. cond b (elim (absorbed o v (doubted o v d) s (p i)) [ Settled u ↦ u | SoFar u ↦ swept o f p (doubted o v d) u is ]) (swept o f p d s is)) h
 
 module _ (es : List Event) (rs : List Row) (room : ℕ) where
@@ -204,7 +204,7 @@ module _ (es : List Event) (rs : List Row) (room : ℕ) where
     pub none-left : sweeping es rs sc η w low u left ≡ closed low u → Trying η (Told (closed low u)) s
     none-left e = record { valid = waits; same = ap (resume es rs η s) (sym e); nearer = omega arith }
 
-    pub next-found : (x : Found) (θ : Variables) → FoundAt es rs sc left η θ x →
+    pub next-found : (x : Found) (θ : Variables) → FoundAt es rs sc u left η θ x →
         Trying θ (Ask (sc .body) (window (sc .side) (timeAt es) (sc .duration) (x .place) w)) (Places sc w (length η) (x .left) (x .test) (doubted (sc .pick) (x .test) low) u ∷ s)
     next-found x θ k =
         let e = var.Event (eventAt es (x .place)) in
@@ -230,7 +230,7 @@ module _ (es : List Event) (rs : List Row) (room : ℕ) where
                 (record { body = b; test = ready .test; space = ready .space; inside = z; within = omega arith }, waits);
           };
           same = ap (λ ζ. resume es rs ζ s (continued es rs sc ζ w d (x .left) (absorbed o (x .test) d u (p (x .place))))) (forgotten η e)
-              ∙ ap (resume es rs η s) (sym (goes-on sc η w d (x .left) (absorbed o (x .test) d u (p (x .place)))) ∙ sym (sweep-on o f p low u (x .place) (order o (x .left)) (x .test) (k .test) (k .possible)) ∙ sym (k .same p low u));
+              ∙ ap (resume es rs η s) (sym (goes-on sc η w d (x .left) (absorbed o (x .test) d u (p (x .place)))) ∙ sym (sweep-on o f p low u (x .place) (order o (x .left)) (x .test) (k .test) (k .counts)) ∙ sym (k .same p low));
           nearer = omega arith;
         } in
         onto next (k .bound) refl refl

@@ -1,6 +1,6 @@
 -- A scope judged at one possible delimiter after another, rising for first and each, falling for last.
 use mathlib.Core.List.{List, [], _∷_}
-use mathlib.Core.Bool.{cond}
+use mathlib.Core.Bool.{Bool, cond}
 use Prim.Native.Nat.{ℕ, zero, suc, _+_, _-_}
 use Rattle.std.specs.declared.option.Option.{Option}
 use Rattle.std.specs.declared.option.Option.the-variants.{Some, None}
@@ -9,7 +9,7 @@ use Rattle.rules.specs.declared.row.Pick.the-variants.{First, Last, Each}
 use Rattle.meaning.specs.declared.verdict.Origin.{Origin}
 use Rattle.meaning.specs.declared.verdict.Verdict.{Verdict}
 use Rattle.meaning.specs.declared.verdict.Verdict.the-variants.{Holds, Fails, Open}
-use Rattle.meaning.specs.Three.{possible?}
+use Rattle.meaning.specs.Three.{holds?, possible?}
 use Rattle.meaning.specs.Windows.{Window, places}
 use Rattle.judging.specs.declared.sweep.Outcome.{Outcome}
 use Rattle.judging.specs.declared.sweep.Outcome.the-variants.{Settled, SoFar}
@@ -48,7 +48,7 @@ former Holds v = v
 former Fails v = Fails
 former (Open q) v = Open q
 
--- one more delimiter, whose test is other than no, with the verdict v of p there; s is what stands so far
+-- one more delimiter, with the verdict v of p there; s is what stands so far
 abbrev pub absorbed : Pick → (test : Verdict) → Option Origin → (s v : Verdict) → Outcome
 absorbed First Holds d s v = Settled (closed d v)
 absorbed First Fails d s v = SoFar s
@@ -64,10 +64,19 @@ absorbed Last Holds d s v = Settled (closed d (former v s))
 absorbed Last Fails d s v = SoFar s
 absorbed Last (Open q) d s v = SoFar (former v s)
 
+-- whether the property has to be judged at a place: its test is other than no,
+-- and for each, once something is open, only a yes can change that
+abbrev pub needed : Pick → (s test : Verdict) → Bool
+needed First s v = possible? v
+needed Last s v = possible? v
+needed Each Holds v = possible? v
+needed Each Fails v = holds? v
+needed Each (Open q) v = holds? v
+
 -- what is answered in the end, over the places still to be tried
 abbrev pub swept : Pick → (f p : ℕ → Verdict) → Option Origin → (s : Verdict) → List ℕ → Verdict
 swept o f p d s [] = closed d s
 swept o f p d s (i ∷ is) =
-    cond (possible? (f i))
+    cond (needed o s (f i))
     (elim (absorbed o (f i) (doubted o (f i) d) s (p i)) [ Settled v ↦ v | SoFar u ↦ swept o f p (doubted o (f i) d) u is ])
     (swept o f p d s is)

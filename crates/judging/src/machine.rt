@@ -102,7 +102,7 @@ fn try_next<L: ReadingLog>(
     ensures space { λ _. ⌜ room (now (stack .exit)) ≡ room (now (stack .entry)) ⌝ }
 {
     let depth = known.depth();
-    match seek(log, rows, scoping, places, known) {
+    match seek(log, rows, scoping, so_far, places, known) {
         None => Turn::Told {
             verdict: close(lowest, so_far),
         },

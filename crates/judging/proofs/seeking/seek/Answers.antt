@@ -10,13 +10,13 @@ use Rattle.meaning.specs.Terms.{_⊕_}
 use Rattle.meaning.specs.Terms.{answerFor}
 use Rattle.judging.specs.Bindings.{bindings}
 use Rattle.judging.specs.Seeking.{delimiterTest}
-use Rattle.judging.specs.Sweeps.{swept}
+use Rattle.judging.specs.Sweeps.{needed, swept}
 use Rattle.judging.proofs.Binding.{forgotten-if}
 use Rattle.judging.proofs.Seeks.{trying-all, passed, tried, fewer, order-none, matched, is-possible}
 use Rattle.judging.proofs.seeking.seek.Needs as need
 
 pub loop-left-holds : need.loop-left-holds
-loop-left-holds g c = (refl, trying-all _ _ _ _ _)
+loop-left-holds g c = (refl, trying-all _ _ _ _ _ _)
 
 pub loop-left-again : need.loop-left-again
 loop-left-again g c =
@@ -32,11 +32,12 @@ loop-left-again g c =
       c .truncate .ensures
       ∙ ap₂ take (c .depth-depth .ensures) (c .ask-test .ensures .known ∙ ap (λ θ. cond (eqb (event .name) (sc .name)) (θ ⊕ Event event) θ) same)
       ∙ forgotten-if η (Event event) _,
-      passed es rows sc η (c .loop-left .inv .1) (c .next-place-place .ensures) (sym answer ∙ c .in-Fails .is),
+      passed es rows sc (c .args .so-far) η (c .loop-left .inv .1) (c .next-place-place .ensures)
+      (ap (needed (sc .pick) (c .args .so-far)) (sym answer) ∙ sym (c .is-needed .ensures) ∙ c .if-is-needed .left),
     )
 
-pub returns-in-Holds : need.returns-in-Holds
-returns-in-Holds g c =
+pub returns-then-is-needed : need.returns-then-is-needed
+returns-then-is-needed g c =
     let es = g .L·ReadingLog .events (c .args .log .now) in
     let rows = c .args .rows .now in
     let sc = c .args .scoping in
@@ -44,18 +45,18 @@ returns-in-Holds g c =
     let same = c .loop-left .inv .0 in
     let event = c .event-at-event .result in
     let place = c .next-place-place .result .0 in
-    let can = is-possible _ (c .in-Holds .is) in
-    let named = matched (eqb (event .name) (sc .name)) _ _ (c .ask-test .ensures .answer) can in
+    let counts = sym (c .is-needed .ensures) ∙ c .if-is-needed .taken in
+    let named = matched (eqb (event .name) (sc .name)) _ _ (c .ask-test .ensures .answer) (is-possible (sc .pick) (c .args .so-far) _ counts) in
     let trying = c .loop-left .inv .1 in
     record {
-      same = tried es rows sc η trying (c .next-place-place .ensures);
+      same = tried es rows sc (c .args .so-far) η trying (c .next-place-place .ensures);
       test = c .ask-test .ensures .answer ∙ ap₂ (λ e θ. answerFor e θ (sc .test) (sc .name) (testAt rows (sc .test)) place) (c .event-at-event .ensures) same;
-      possible = can;
+      counts = counts;
       time = ap (λ e. e .time) (c .event-at-event .ensures);
       bound = c .ask-test .ensures .known ∙ ap (λ b. cond b (bindings (c .loop-left .known) ⊕ Event event) (bindings (c .loop-left .known))) named
           ∙ ap₂ (λ θ e. θ ⊕ Event e) same (c .event-at-event .ensures);
       inside = let a = trying .inside in let b = c .next-place-place .ensures .inside in omega arith;
-      fewer = fewer es rows sc η trying (c .next-place-place .ensures);
+      fewer = fewer es rows sc (c .args .so-far) η trying (c .next-place-place .ensures);
     }
 
 pub returns : need.returns
@@ -63,4 +64,4 @@ returns g c =
     let es = g .L·ReadingLog .events (c .args .log .now) in
     let f = delimiterTest es (c .args .rows .now) (c .args .scoping) (bindings (c .args .known .now)) in
     let o = c .args .scoping .pick in
-    (λ p d s. c .loop-left .inv .1 .same p d s ∙ ap (swept o f p d s) (order-none o (c .loop-left .left) (c .loop-left-test .left)), c .loop-left .inv .0)
+    (λ p d. c .loop-left .inv .1 .same p d ∙ ap (swept o f p d (c .args .so-far)) (order-none o (c .loop-left .left) (c .loop-left-test .left)), c .loop-left .inv .0)
