@@ -2,11 +2,11 @@
 use mathlib.Core.Path.{_≡_, refl, sym, ap, subst, _∙_}
 use mathlib.Core.List.{List, [], _∷_, _++_, append-assoc}
 use mathlib.Core.Bool.{Bool, true, false}
-use mathlib.Core.Logic.{⊎-elim}
+use mathlib.Core.Logic.{⊎-elim, inl, inr, _≢_}
 use Prim.Native.Nat.{ℕ, zero, suc, _+_, _-_, _≤_, _<_}
 use native.Mathlib.Omega.{arith}
-use lib.ListN.{length, drop, getD}
-use Rattle.std.proofs.shelf.Lists.{drop-more, drop-all, length-append, length-drop}
+use lib.ListN.{length, drop, getD, set}
+use Rattle.std.proofs.shelf.Lists.{drop-more, drop-all, length-append, length-drop, getD-set-same, getD-set-other}
 use Rattle.std.proofs.shelf.Tests.{cases-lt}
 use Rattle.std.specs.Options.{isSome}
 use Rattle.std.specs.declared.option.Option.{Option}
@@ -14,7 +14,7 @@ use Rattle.std.specs.declared.option.Option.the-variants.{Some, None}
 use Rattle.rules.specs.declared.row.Row.{Row}
 use Rattle.rules.specs.declared.row.Row.the-variants.{Not, Connect, Occurrence, Absence, Scope, Quantify, True, NotTest, Join, Compare, Constant, Time, Value, Number, Reckon}
 use Rattle.rules.specs.Trees.{Term, constant, timeOf, valueOf, numberOf, reckon, Test, always, notT, join, compare, Property, notP, connect, occurrence, absence, scope, quantify, termRows, testRows, rows, Begins}
-use Rattle.judging.specs.Extents.{arity, beyond}
+use Rattle.judging.specs.Extents.{arity, beyond, endAt, EndsAt, Ends}
 
 -- these rows are one part
 abbrev pub Part : List Row → Type 0
@@ -97,3 +97,69 @@ arity-few (Time a) = omega arith
 arity-few (Value a b) = omega arith
 arity-few (Number a) = omega arith
 arity-few (Reckon o) = omega arith
+
+-- Ends, one by one.
+
+-- behind m + n parts are n parts behind m
+then-beyond : (n : ℕ) → Option (List Row) → Option (List Row)
+then-beyond n None = None
+then-beyond n (Some rs) = beyond n rs
+
+beyond-split : (m n : ℕ) (xs : List Row) → beyond (m + n) xs ≡ then-beyond n (beyond m xs)
+unfolding then-beyond
+beyond-split zero n xs = let e : 0 + n ≡ n = omega arith in ap (λ k. beyond k xs) e
+beyond-split (suc m) n [] = let e : suc m + n ≡ suc (m + n) = omega arith in ap (λ k. beyond k []) e
+beyond-split (suc m) n (r ∷ rs) =
+    let e : suc m + n ≡ suc (m + n) = omega arith in
+    let a : arity r + (m + n) ≡ arity r + m + n = omega arith in
+    ap (λ k. beyond k (r ∷ rs)) e ∙ ap (λ k. beyond k rs) a ∙ beyond-split (arity r + m) n rs
+
+first-some : (n : ℕ) (o : Option (List Row)) → isSome (then-beyond n o) ≡ true → isSome o ≡ true
+unfolding then-beyond
+first-some n None h = h
+first-some n (Some rs) h = refl
+
+module _ (rs : List Row) where
+  -- the parts from row i on have their ends in the list
+  abbrev pub EndsFrom : List ℕ → ℕ → Type 0
+  EndsFrom ends i = (j : ℕ) → i ≤ j → j < length rs → isSome (beyond 1 (drop j rs)) ≡ true → EndsAt rs j (getD ends j 0)
+
+  one-end : (ends : List ℕ) (i : ℕ) → EndsFrom ends i → isSome (beyond 1 (drop i rs)) ≡ true → EndsAt rs i (getD ends i 0)
+  one-end ends i k h = k i (omega arith) (more-rows rs i 1 (omega arith) h) h
+
+  -- the end of a part, from those behind it
+  pub end-next : (ends : List ℕ) (i : ℕ) (d : Row) → EndsFrom ends (i + 1) → i < length rs → isSome (beyond 1 (drop i rs)) ≡ true → (n : ℕ) → arity (getD rs i d) ≡ n → EndsAt rs i (endAt n ends i)
+  unfolding then-beyond
+  end-next ends i d k h s zero e =
+      record { rest = beyond-next rs i 1 d (omega arith) h ∙ ap (λ m. beyond (m + 0) (drop (i + 1) rs)) e; forward = omega arith; inside = omega arith }
+  end-next ends i d k h s (suc zero) e =
+      let opened = beyond-next rs i 1 d (omega arith) h ∙ ap (λ m. beyond (m + 0) (drop (i + 1) rs)) e in
+      let x = one-end ends (i + 1) k (sym (ap isSome opened) ∙ s) in
+      let f = x .forward in
+      record { rest = opened ∙ x .rest; forward = omega arith; inside = x .inside }
+  end-next ends i d k h s (suc (suc zero)) e =
+      let xs = drop (i + 1) rs in
+      let opened = beyond-next rs i 1 d (omega arith) h ∙ ap (λ m. beyond (m + 0) xs) e ∙ beyond-split 1 1 xs in
+      let x = one-end ends (i + 1) k (first-some 1 (beyond 1 xs) (sym (ap isSome opened) ∙ s)) in
+      let second = opened ∙ ap (then-beyond 1) (x .rest) in
+      let f = x .forward in
+      let y = one-end ends (getD ends (i + 1) 0) (λ j l. k j (omega arith)) (sym (ap isSome second) ∙ s) in
+      let g = y .forward in
+      record { rest = second ∙ y .rest; forward = omega arith; inside = y .inside }
+  end-next ends i d k h s (suc (suc (suc n))) e = let few = arity-few (getD rs i d) in absurd (omega arith)
+
+  -- one more end is put into the list
+  pub ends-more : (ends : List ℕ) (i e : ℕ) → i < length ends → EndsFrom ends (i + 1) → (isSome (beyond 1 (drop i rs)) ≡ true → EndsAt rs i e) → EndsFrom (set ends i e) i
+  ends-more ends i e room k here j l m s =
+      elim (cases-lt i j) [
+        | inl h ↦ let other : j ≢ i = omega arith in subst (EndsAt rs j) (sym (getD-set-other ends i j e 0 other)) (k j (omega arith) m s)
+        | inr h ↦
+          let same : j ≡ i = omega arith in
+          subst (λ x. EndsAt rs x (getD (set ends i e) x 0)) (sym same) (subst (EndsAt rs i) (sym (getD-set-same ends i e 0 room)) (here (subst (λ x. isSome (beyond 1 (drop x rs)) ≡ true) same s)))
+      ]
+
+-- where a part ends, by the list
+pub part-place : (all : List Row) (ends : List ℕ) (at : ℕ) (front : List Row) → Ends all ends → Part front → Begins all at front → at < length all → getD ends at 0 ≡ at + length front
+part-place all ends at front k part begins h =
+    let x = k .at at h (ap isSome (part-ends all at front part begins (omega arith))) in
+    part-end all at front part begins (omega arith) (getD ends at 0) (x .inside) (x .rest)

@@ -1,11 +1,10 @@
-// Where the part that begins at a row ends.
+// Where the part that begins at each row ends.
 ghost use mathlib.Core.Path.{_≡_};
-ghost use mathlib.Core.Bool.{true};
-ghost use Prim.Native.Nat.{_≤_};
-ghost use lib.ListN.{length, drop};
-ghost use Rattle.std.specs.Options.{isSome};
-ghost use Rattle.std.specs.declared.option.Option.the-variants.{Some};
-ghost use Rattle.judging.specs.Extents.{arity, beyond};
+ghost use Prim.Native.Nat.{_<_, _≤_};
+ghost use lib.ListN.{length, getD};
+ghost use Rattle.rules.specs.Limits.{mostRows};
+ghost use Rattle.judging.specs.Extents.{arity, endAt, Ends};
+use rules::limits::MOST_ROWS;
 use rules::row::Row;
 
 // How many parts a row is followed by.
@@ -22,20 +21,33 @@ fn parts(row: Row) -> usize
     }
 }
 
-// The row behind the part that begins at `at`.
-pub(crate) fn behind(rows: &[Row], at: usize) -> usize
-    requires few { ⌜ length (now rows) ≤ 64 ⌝ }
-    requires within { ⌜ at ≤ length (now rows) ⌝ }
-    requires ends { ⌜ isSome (beyond 1 (drop at (now rows))) ≡ true ⌝ }
-    ensures rest { λ r. ⌜ beyond 1 (drop at (now (rows .entry))) ≡ Some (drop r (now (rows .entry))) ⌝ }
-    ensures within { λ r. ⌜ r ≤ length (now (rows .entry)) ⌝ }
+fn number_at(numbers: &[usize], i: usize) -> usize
+    ensures { λ r. ⌜ r ≡ getD (now (numbers .entry)) i 0 ⌝ }
 {
-    let mut wanted: usize = 1;
-    let mut i = at;
-    while wanted > 0 {
-        let row = rows[i];
-        wanted = parts(row) + (wanted - 1);
-        i += 1;
+    if i < numbers.len() { numbers[i] } else { 0 }
+}
+
+// The row behind the part at a row that is followed by so many parts, from the ends of the later ones.
+fn end_of(parts: usize, ends: &[usize], i: usize) -> usize
+    requires { ⌜ i < mostRows ⌝ }
+    ensures { λ r. ⌜ r ≡ endAt parts (now (ends .entry)) i ⌝ }
+{
+    match parts {
+        0 => i + 1,
+        1 => number_at(ends, i + 1),
+        _ => number_at(ends, number_at(ends, i + 1)),
     }
-    i
+}
+
+// The row behind the part that begins at each row.
+pub(crate) fn ends_of(rows: &[Row]) -> [usize; MOST_ROWS]
+    requires { ⌜ length (now rows) ≤ mostRows ⌝ }
+    ensures { λ r. ⌜ Ends (now (rows .entry)) r ⌝ }
+{
+    let mut ends = [0; MOST_ROWS];
+    for i in (0..rows.len()).rev() {
+        let row = rows[i];
+        ends[i] = end_of(parts(row), &ends, i);
+    }
+    ends
 }

@@ -1,22 +1,19 @@
 // A rule judged over a log, row by row, with the rows that wait on a stack.
 ghost use mathlib.Core.Path.{_≡_};
-ghost use mathlib.Core.Bool.{Bool, true};
 ghost use mathlib.Core.List.{List, [], _∷_};
-ghost use Prim.Native.Nat.{ℕ, _+_, _-_, _*_, _<_, _≤_};
+ghost use Prim.Native.Nat.{_+_, _-_, _*_, _<_, _≤_};
 ghost use lib.ListN.{length};
 ghost use Rattle.logs.specs.declared.event.Event.{Event as Ev};
-ghost use Rattle.rules.specs.Forest.{propertyAt};
-ghost use Rattle.rules.specs.Trees.{rows as written, Begins};
-ghost use Rattle.meaning.specs.Windows.{Window};
-ghost use Rattle.judging.specs.declared.working.Turn.the-variants.{Ask, Told};
+ghost use Rattle.rules.specs.Limits.{mostRows};
 ghost use Rattle.judging.specs.Bindings.{bindings};
-ghost use Rattle.judging.specs.Machine.{decided, start, combined, settles, judgedAt, sweeping, gathering, resume, worth, stepsAt, pending, turnsLeft, Standing, ValuesReady, PlacesReady, Waits, Asking, Onward, OnwardTold, OnwardAsked};
+ghost use Rattle.judging.specs.Extents.{Ends};
+ghost use Rattle.judging.specs.Machine.{decided, start, combined, settles, judgedAt, sweeping, gathering, resume, stepsAt, pending, Standing, ValuesReady, PlacesReady, Waits, Asking, Onward, OnwardTold, OnwardAsked};
 ghost use Rattle.stacks.specs.Stacks.{held, room};
 use crate::combine::conjoin;
 use crate::combine::connect;
 use crate::combine::disjoin;
 use crate::combine::negate;
-use crate::extents::behind;
+use crate::extents::ends_of;
 use crate::known::Known;
 use crate::occurrence::occurs;
 use crate::seeking::seek;
@@ -316,12 +313,14 @@ fn ascend<L: ReadingLog>(
 fn descend<L: ReadingLog>(
     log: &L,
     rows: &[Row],
+    ends: &[usize],
     at: usize,
     window: (u16, u16),
     known: &mut Known,
     stack: &mut Stack<JudgingRow>,
 ) -> Turn
-    requires few { ⌜ length (now rows) ≤ 64 ⌝ }
+    requires few { ⌜ length (now rows) ≤ mostRows ⌝ }
+    requires ends { ⌜ Ends (now rows) (now ends) ⌝ }
     requires within { ⌜ at < length (now rows) ⌝ }
     requires valid { ⌜ Asking (events (now log)) (now rows) (room (now stack)) (bindings (now known)) at window (held (now stack)) ⌝ }
     ensures onward { λ r. ⌜ OnwardAsked (events (now (log .entry))) (now (rows .entry)) (room (now (stack .entry))) (bindings (now (known .entry))) at window (held (now (stack .entry))) (bindings (now (known .exit))) r (held (now (stack .exit))) ⌝ }
@@ -334,7 +333,7 @@ fn descend<L: ReadingLog>(
             Turn::Ask { at: at + 1, window }
         }
         Row::Connect { connective } => {
-            let right = behind(rows, at + 1);
+            let right = ends[at + 1];
             let depth = known.depth();
             stack.push(JudgingRow::Left {
                 connective,
@@ -362,7 +361,7 @@ fn descend<L: ReadingLog>(
                 name,
                 duration,
                 test: at + 1,
-                body: behind(rows, at + 1),
+                body: ends[at + 1],
             };
             try_next(log, rows, scoping, window, window, None, Verdict::Holds, known, stack)
         }
@@ -390,10 +389,11 @@ pub(crate) fn run<L: ReadingLog>(
     at: usize,
     work: &mut [JudgingRow],
 ) -> Verdict
-    requires few { ⌜ length (now rows) ≤ 64 ⌝ }
+    requires few { ⌜ length (now rows) ≤ mostRows ⌝ }
     requires stands { ⌜ Standing (now rows) 0 at 0 (length (now work)) ⌝ }
     ensures { λ r. ⌜ r ≡ judgedAt (events (now (log .entry))) (now (rows .entry)) [] (0, length (events (now (log .entry)))) at ⌝ }
 {
+    let ends = ends_of(rows);
     let mut known = Known::nothing();
     let mut stack = Stack::new(work);
     let mut turn = Turn::Ask {
@@ -405,6 +405,7 @@ pub(crate) fn run<L: ReadingLog>(
             Turn::Ask { at, window } => turn = descend(
                 log,
                 rows,
+                &ends,
                 at,
                 window,
                 &mut known,

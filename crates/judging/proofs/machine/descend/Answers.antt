@@ -2,14 +2,13 @@ use mathlib.Core.Path.{_≡_, refl, sym, ap, subst, _∙_}
 use mathlib.Core.List.{_∷_}
 use Prim.Native.Nat.{_+_, _<_, _≤_}
 use native.Mathlib.Omega.{arith}
-use lib.ListN.{length}
+use lib.ListN.{length, getD}
 use Rattle.std.proofs.shelf.Tests.{and-parts}
-use Rattle.std.specs.Options.{isSome}
 use Rattle.std.specs.declared.option.Option.the-variants.{None}
 use Rattle.rules.specs.declared.row.Row.the-variants.{Not}
 use Rattle.rules.specs.Trees.{rows, testRows, Begins}
 use Rattle.rules.specs.Forest.{propertyAt}
-use Rattle.rules.proofs.Heads.{property-by}
+use Rattle.rules.proofs.Heads.{property-by, test-within, property-within}
 use Rattle.meaning.specs.declared.verdict.Verdict.the-variants.{Holds}
 use Rattle.meaning.specs.Three.{not3, atLeast3}
 use Rattle.meaning.specs.Terms.{asked}
@@ -21,19 +20,26 @@ use Rattle.judging.specs.declared.working.Scoping.{Scoping}
 use Rattle.judging.specs.Bindings.{bindings}
 use Rattle.judging.specs.Machine.{steps, depthOf}
 use Rattle.stacks.specs.Stacks.{held, room}
-use Rattle.judging.proofs.Endings.{test-part, property-part, part-ends, part-end}
+use Rattle.judging.proofs.Endings.{test-part, property-part, part-place}
 use Rattle.stacks.proofs.Piling.{with-room}
 use Rattle.judging.proofs.Turns.{no-property, test-is, test-begins, onto, on-not, on-connect, on-leaf, binds, scope-ready, from-scope, quantify-ready, from-quantify}
 use Rattle.judging.proofs.machine.descend.Needs as need
 
-pub behind-right-requires : need.behind-right-requires
-behind-right-requires g c κs =
+pub index-ends-at : need.index-ends-at
+index-ends-at g c =
     let b = property-by (c .args .rows .now) (c .args .at) Not _ (c .in-Connect .is) _ (c .pre .valid .stands .begins) in
-    record {
-      few = c .pre .few;
-      within = omega arith;
-      ends = ap isSome (part-ends (c .args .rows .now) (c .args .at + 1) (rows (b .first)) (property-part (b .first)) (b .left) (omega arith));
-    }
+    let within = property-within (c .args .rows .now) (c .args .at + 1) (b .first) (b .left) in
+    let long = c .pre .ends .long in
+    let few = c .pre .few in
+    omega arith
+
+pub index-ends-at-in-Scope : need.index-ends-at-in-Scope
+index-ends-at-in-Scope g c =
+    let b = property-by (c .args .rows .now) (c .args .at) Not _ (c .in-Scope .is) _ (c .pre .valid .stands .begins) in
+    let within = test-within (c .args .rows .now) (c .args .at + 1) (b .first) (b .left) in
+    let long = c .pre .ends .long in
+    let few = c .pre .few in
+    omega arith
 
 pub occurs-requires : need.occurs-requires
 occurs-requires g c κs =
@@ -51,15 +57,6 @@ occurs-requires-in-Absence g c κs =
       space = binds _ _ _ _ _ _ _ (c .pre .valid) _ (b .1) (λ sorts h. and-parts _ _ h .0);
     }
 
-pub behind-requires : need.behind-requires
-behind-requires g c κs =
-    let b = property-by (c .args .rows .now) (c .args .at) Not _ (c .in-Scope .is) _ (c .pre .valid .stands .begins) in
-    record {
-      few = c .pre .few;
-      within = omega arith;
-      ends = ap isSome (part-ends (c .args .rows .now) (c .args .at + 1) (testRows (b .first)) (test-part (b .first)) (b .left) (omega arith));
-    }
-
 pub try-next-requires : need.try-next-requires
 try-next-requires g c κs =
     let es = g .L·ReadingLog .events (c .args .log .now) in
@@ -67,8 +64,8 @@ try-next-requires g c κs =
     let at = c .args .at in
     let f = c .in-Scope in
     let b = property-by all at Not _ (f .is) _ (c .pre .valid .stands .begins) in
-    let sc : Scoping = record { side = f .side; pick = f .pick; name = f .name; duration = f .duration; test = at + 1; body = c .behind .result } in
-    let place = part-end all (at + 1) (testRows (b .first)) (test-part (b .first)) (b .left) (omega arith) (c .behind .result) (c .behind .ensures .within) (c .behind .ensures .rest) in
+    let sc : Scoping = record { side = f .side; pick = f .pick; name = f .name; duration = f .duration; test = at + 1; body = getD (c .args .ends .now) (at + 1) 0 } in
+    let place = part-place all (c .args .ends .now) (at + 1) (testRows (b .first)) (c .pre .ends) (test-part (b .first)) (b .left) (test-within all (at + 1) (b .first) (b .left)) in
     record {
       ready = scope-ready es all _ _ at (c .args .window) _ (c .pre .valid) sc (b .first) (b .second) (b .is) (b .left) (subst (λ i. Begins all i (rows (b .second))) (sym place) (b .right)) refl place;
       waits = c .pre .valid .waits;
@@ -104,8 +101,8 @@ returns-in-Connect g c =
     let w = c .args .window in
     let b = property-by all at Not _ (c .in-Connect .is) _ (c .pre .valid .stands .begins) in
     let s = held (c .args .stack .now) in
-    let right = c .behind-right .result in
-    let place = part-end all (at + 1) (rows (b .first)) (property-part (b .first)) (b .left) (omega arith) right (c .behind-right .ensures .within) (c .behind-right .ensures .rest) in
+    let right = getD (c .args .ends .now) (at + 1) 0 in
+    let place = part-place all (c .args .ends .now) (at + 1) (rows (b .first)) (c .pre .ends) (property-part (b .first)) (b .left) (property-within all (at + 1) (b .first) (b .left)) in
     let deep = c .pre .valid .stands .deep in
     let taken = ap depthOf (b .is) in
     let free : length s < room (c .args .stack .now) = omega arith in
@@ -147,8 +144,8 @@ returns-in-Scope g c =
     let at = c .args .at in
     let f = c .in-Scope in
     let b = property-by all at Not _ (f .is) _ (c .pre .valid .stands .begins) in
-    let sc : Scoping = record { side = f .side; pick = f .pick; name = f .name; duration = f .duration; test = at + 1; body = c .behind .result } in
-    let place = part-end all (at + 1) (testRows (b .first)) (test-part (b .first)) (b .left) (omega arith) (c .behind .result) (c .behind .ensures .within) (c .behind .ensures .rest) in
+    let sc : Scoping = record { side = f .side; pick = f .pick; name = f .name; duration = f .duration; test = at + 1; body = getD (c .args .ends .now) (at + 1) 0 } in
+    let place = part-place all (c .args .ends .now) (at + 1) (testRows (b .first)) (c .pre .ends) (test-part (b .first)) (b .left) (test-within all (at + 1) (b .first) (b .left)) in
     let few = laws .within in
     let small = laws .small in
     record {

@@ -10,4 +10,4 @@ pub descend-turn-requires : need.descend-turn-requires
 descend-turn-requires g c κs =
     let es = g .L·ReadingLog .events (c .args .log .now) in
     let valid = subst (λ t. Valid es (c .args .rows .now) (room (c .loop-turn .stack)) (bindings (c .loop-turn .known)) t (held (c .loop-turn .stack))) (c .in-Ask .is) (c .loop-turn .inv .0) in
-    record { few = c .pre .few; within = property-within (c .args .rows .now) (c .in-Ask .at) _ (valid .stands .begins); valid = valid }
+    record { few = c .pre .few; ends = c .ends-of-ends .ensures; within = property-within (c .args .rows .now) (c .in-Ask .at) _ (valid .stands .begins); valid = valid }

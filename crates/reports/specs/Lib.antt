@@ -1,0 +1,4 @@
+pub mod Input
+pub mod Judged
+pub mod Lines
+pub mod Reports

@@ -1,0 +1,4 @@
+pub mod input;
+pub mod judged;
+pub mod line;
+pub mod report;
