@@ -1,5 +1,5 @@
 -- Answers counted one by one are counted as a whole.
-use mathlib.Core.Path.{_≡_, refl, sym, ap, ap₂, _∙_}
+use mathlib.Core.Path.{_≡_, refl, ap}
 use mathlib.Core.List.{List, [], _∷_}
 use mathlib.Core.Bool.{Bool, true, false, cond, _&&_, _||_}
 use mathlib.Core.Logic.{_⊎_, inl, inr}
@@ -12,7 +12,7 @@ use Rattle.std.proofs.shelf.Tests.{le-leb, lt-leb, lt-ltb, le-ltb, ne-eqb, leb-
 use Rattle.meaning.specs.declared.verdict.Origin.{Origin}
 use Rattle.meaning.specs.declared.verdict.Verdict.{Verdict}
 use Rattle.meaning.specs.declared.verdict.Verdict.the-variants.{Holds, Fails, Open}
-use Rattle.meaning.specs.Three.{holds?, possible?, count, originOr, firstOpen, atLeast3}
+use Rattle.meaning.specs.Three.{holds?, possible?, count, originOr, atLeast3}
 use Rattle.meaning.specs.Windows.{upfrom, places}
 use Rattle.judging.specs.declared.tally.Tally.{Tally}
 use Rattle.judging.specs.Tallies.{nothing, noted, weighed, unchanging, ending}

@@ -1,7 +1,7 @@
 -- The rows behind a part.
 use mathlib.Core.Path.{_≡_, refl, sym, ap, subst, _∙_}
 use mathlib.Core.List.{List, [], _∷_, _++_, append-assoc}
-use mathlib.Core.Bool.{Bool, true, false}
+use mathlib.Core.Bool.{true, false}
 use mathlib.Core.Logic.{⊎-elim, inl, inr, _≢_}
 use Prim.Native.Nat.{ℕ, zero, suc, _+_, _-_, _≤_, _<_}
 use native.Mathlib.Omega.{arith}
@@ -154,8 +154,8 @@ module _ (rs : List Row) where
       elim (cases-lt i j) [
         | inl h ↦ let other : j ≢ i = omega arith in subst (EndsAt rs j) (sym (getD-set-other ends i j e 0 other)) (k j (omega arith) m s)
         | inr h ↦
-          let same : j ≡ i = omega arith in
-          subst (λ x. EndsAt rs x (getD (set ends i e) x 0)) (sym same) (subst (EndsAt rs i) (sym (getD-set-same ends i e 0 room)) (here (subst (λ x. isSome (beyond 1 (drop x rs)) ≡ true) same s)))
+            let same : j ≡ i = omega arith in
+            subst (λ x. EndsAt rs x (getD (set ends i e) x 0)) (sym same) (subst (EndsAt rs i) (sym (getD-set-same ends i e 0 room)) (here (subst (λ x. isSome (beyond 1 (drop x rs)) ≡ true) same s)))
       ]
 
 -- where a part ends, by the list

@@ -1,24 +1,22 @@
 -- The rule that judge is asked for.
-use mathlib.Core.Path.{_≡_, refl, sym, ap, subst, _∙_}
+use mathlib.Core.Path.{_≡_, refl, sym, ap, _∙_}
 use mathlib.Core.Bool.{Bool, true, false, cond}
 use mathlib.Core.List.{List, []}
-use Prim.Native.Nat.{ℕ, _+_, _<_, _≤_}
+use Prim.Native.Nat.{ℕ, _<_, _≤_}
 use native.Mathlib.Omega.{arith}
 use lib.Dec.{ltb}
 use lib.ListN.{length}
 use Rattle.std.proofs.shelf.Tests.{ltb-true, lt-ltb, le-ltb}
-use Rattle.std.specs.declared.option.Option.{Option}
 use Rattle.std.specs.declared.option.Option.the-variants.{Some, None}
 use Rattle.std.specs.declared.result.Result.{Result}
 use Rattle.std.specs.declared.result.Result.the-variants.{Ok, Err}
 use Rattle.logs.specs.declared.event.Event.{Event}
 use Rattle.rules.specs.declared.row.Row.{Row}
-use Rattle.rules.specs.declared.sheet.ReachRefusal.{ReachRefusal}
 use Rattle.rules.specs.declared.sheet.Sheet.{Sheet}
-use Rattle.rules.specs.Trees.{rows, reachOf}
+use Rattle.rules.specs.Trees.{reachOf}
 use Rattle.rules.specs.Sheets.{held, startIn, reachIn}
 use Rattle.rules.specs.Written.{ruleAt, startOf}
-use Rattle.rules.proofs.Sheets.{rule-begins, rule-scoped, rows-few}
+use Rattle.rules.proofs.Sheets.{rule-begins, rule-scoped}
 use Rattle.meaning.specs.declared.verdict.Verdict.{Verdict}
 use Rattle.meaning.specs.Verdicts.{verdict, judged}
 use Rattle.judging.specs.declared.judge.JudgeRefusal.{JudgeRefusal}

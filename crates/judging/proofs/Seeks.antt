@@ -1,8 +1,8 @@
 -- Places whose test is no are passed over.
-use mathlib.Core.Path.{_≡_, refl, sym, ap, ap₂, subst, _∙_}
+use mathlib.Core.Path.{_≡_, refl, sym, ap, subst, _∙_}
 use mathlib.Core.List.{List, [], _∷_}
 use mathlib.Core.Bool.{Bool, true, false, cond}
-use Prim.Native.Nat.{ℕ, zero, suc, _+_, _-_, _≤_, _<_}
+use Prim.Native.Nat.{ℕ, suc, _+_, _-_, _≤_, _<_}
 use native.Mathlib.Omega.{arith}
 use Rattle.std.specs.declared.option.Option.{Option}
 use Rattle.logs.specs.declared.event.Event.{Event}
@@ -14,10 +14,10 @@ use Rattle.meaning.specs.declared.verdict.Verdict.{Verdict}
 use Rattle.meaning.specs.declared.verdict.Verdict.the-variants.{Holds, Fails, Open}
 use Rattle.meaning.specs.Three.{holds?, possible?}
 use Rattle.meaning.specs.Terms.{Variables}
-use Rattle.meaning.specs.Windows.{Window, places, upfrom}
+use Rattle.meaning.specs.Windows.{Window, places}
 use Rattle.meaning.proofs.Places.{places-next}
 use Rattle.judging.specs.declared.working.Scoping.{Scoping}
-use Rattle.judging.specs.Sweeps.{downto, order, closed, needed, swept}
+use Rattle.judging.specs.Sweeps.{downto, order, needed, swept}
 use Rattle.judging.specs.Seeking.{Fewer, NextPlace, delimiterTest}
 use Rattle.judging.proofs.Counting.{no-places}
 

@@ -1,7 +1,7 @@
 -- A scope judged at one possible delimiter after another comes to its verdict.
 use mathlib.Core.Path.{_≡_, refl, sym, _∙_, ap, ap₂}
 use mathlib.Core.List.{List, [], _∷_}
-use mathlib.Core.Logic.{_⊎_, inl, inr, _≢_}
+use mathlib.Core.Logic.{inl, inr, _≢_}
 use mathlib.Core.Bool.{true, cond}
 use Prim.Native.Nat.{ℕ, zero, suc, _+_, _-_, _≤_, _<_}
 use native.Mathlib.Omega.{arith}
@@ -14,9 +14,9 @@ use Rattle.meaning.specs.declared.verdict.Origin.{Origin}
 use Rattle.meaning.specs.declared.verdict.Verdict.{Verdict}
 use Rattle.meaning.specs.declared.verdict.Verdict.the-variants.{Holds, Fails, Open}
 use Rattle.meaning.specs.Three.{not3, and3, implies3, all3, possible?, filter, firstOpen, settle}
-use Rattle.meaning.specs.Windows.{Window, upfrom, places}
+use Rattle.meaning.specs.Windows.{Window, places}
 use Rattle.meaning.specs.Verdicts.{delimits, blamedOn, scoped}
-use Rattle.meaning.proofs.Places.{places-next, and-holds, and-fails, fails-and, not-fails, not-holds, apart, all-push, all-holds, holds-all, all-fails, fails-all}
+use Rattle.meaning.proofs.Places.{places-next, and-holds, and-fails, fails-and, not-fails, not-holds, apart, all-push, all-holds, fails-all}
 use Rattle.judging.specs.declared.sweep.Outcome.the-variants.{Settled, SoFar}
 use Rattle.judging.specs.Sweeps.{downto, order, doubted, closed, former, absorbed, needed, swept}
 

@@ -1,23 +1,22 @@
 -- Each turn of a judging leaves what is answered in the end, and comes nearer to it.
 use mathlib.Core.Path.{_≡_, refl, sym, ap, ap₂, subst, _∙_}
-use mathlib.Core.List.{List, [], _∷_, _++_}
+use mathlib.Core.List.{List, [], _∷_}
 use mathlib.Core.Bool.{Bool, true, false, cond}
-use Prim.Native.Nat.{ℕ, zero, suc, max, _+_, _-_, _*_, _<_, _≤_}
+use Prim.Native.Nat.{ℕ, suc, _+_, _-_, _*_, _<_, _≤_}
 use native.Mathlib.Nat.{add-mul, one-mul, mul-le-mul-right}
 use native.Mathlib.Omega.{arith}
-use lib.Dec.{eqb, ltb}
+use lib.Dec.{eqb}
 use lib.ListN.{length, take, getD}
 use Rattle.std.proofs.shelf.Lists.{take-all, length-push}
 use Rattle.std.proofs.shelf.Tests.{and-parts, ltb-true}
 use Rattle.std.specs.declared.option.Option.{Option}
-use Rattle.std.specs.declared.option.Option.the-variants.{Some, None}
+use Rattle.std.specs.declared.option.Option.the-variants.{None}
 use Rattle.logs.specs.declared.event.Event.{Event}
 use Rattle.logs.specs.declared.event.Value.{Value}
 use Rattle.logs.specs.Events.{eventAt}
 use Rattle.logs.specs.Lawful.{timeAt}
 use Rattle.rules.specs.declared.row.Connective.{Connective}
 use Rattle.rules.specs.declared.row.Pick.{Pick}
-use Rattle.rules.specs.declared.row.Quantifier.{Quantifier}
 use Rattle.rules.specs.declared.row.Row.{Row}
 use Rattle.rules.specs.declared.row.Row.the-variants.{Not, Connect, Occurrence, Absence, Scope, Quantify}
 use Rattle.rules.specs.declared.row.Side.{Side}
@@ -33,16 +32,16 @@ use Rattle.meaning.specs.declared.verdict.Origin.{Origin}
 use Rattle.meaning.specs.declared.verdict.Variable.{Variable}
 use Rattle.meaning.specs.declared.verdict.Variable.the-variants as var
 use Rattle.meaning.specs.declared.verdict.Verdict.{Verdict}
-use Rattle.meaning.specs.declared.verdict.Verdict.the-variants.{Holds, Fails, Open}
+use Rattle.meaning.specs.declared.verdict.Verdict.the-variants.{Holds}
 use Rattle.meaning.specs.Three.{not3, count}
 use Rattle.meaning.specs.Terms.{Variables, _⊕_, asked, bound, eventIn}
-use Rattle.meaning.specs.Windows.{Window, window, places, upfrom, near, within}
+use Rattle.meaning.specs.Windows.{Window, window, places, near, within}
 use Rattle.meaning.specs.Verdicts.{connected, quantified, scoped, judged}
 use Rattle.judging.specs.declared.sweep.Outcome.{Outcome}
 use Rattle.judging.specs.declared.sweep.Outcome.the-variants.{Settled, SoFar}
 use Rattle.judging.specs.declared.working.Found.{Found}
 use Rattle.judging.specs.declared.working.JudgingRow.{JudgingRow}
-use Rattle.judging.specs.declared.working.JudgingRow.the-variants.{Negation, Left, Right, Values, Places}
+use Rattle.judging.specs.declared.working.JudgingRow.the-variants.{Negation, Left, Values, Places}
 use Rattle.judging.specs.declared.working.Quantifying.{Quantifying}
 use Rattle.judging.specs.declared.working.Scoping.{Scoping}
 use Rattle.judging.specs.declared.working.Turn.{Turn}
@@ -50,10 +49,10 @@ use Rattle.judging.specs.declared.working.Turn.the-variants.{Ask, Told}
 use Rattle.judging.specs.Seeking.{delimiterTest, FoundAt}
 use Rattle.meaning.specs.Terms.{codedFrom}
 use Rattle.judging.specs.Sweeps.{order, doubted, closed, absorbed, needed, swept}
-use Rattle.judging.specs.Machine.{decided, start, combined, settles, judgedAt, inner, sweeping, continued, gathering, resume, worth, steps, stepsAt, pending, turnsLeft, depthOf, Standing, ValuesReady, PlacesReady, RightReady, Waits, Asking, Onward}
+use Rattle.judging.specs.Machine.{start, combined, judgedAt, inner, sweeping, continued, gathering, resume, worth, steps, stepsAt, pending, turnsLeft, depthOf, Standing, ValuesReady, PlacesReady, RightReady, Waits, Asking, Onward}
 use Rattle.judging.proofs.Binding.{forgotten}
 use Rattle.judging.proofs.Counting.{count-few, places-many}
-use Rattle.judging.proofs.Folding.{combined-start, combined-none, combined-next, combined-settled, decided-is}
+use Rattle.judging.proofs.Folding.{combined-start, combined-none, combined-next}
 use Rattle.judging.proofs.Sweeps.{sweeps}
 
 -- The tree of a part is read off its rows.

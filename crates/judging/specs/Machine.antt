@@ -11,7 +11,6 @@ use Rattle.logs.specs.Events.{eventAt}
 use Rattle.logs.specs.Lawful.{timeAt}
 use Rattle.rules.specs.declared.row.Connective.{Connective}
 use Rattle.rules.specs.declared.row.Connective.the-variants.{Or, And, Implies}
-use Rattle.rules.specs.declared.row.Pick.{Pick}
 use Rattle.rules.specs.declared.row.Quantifier.{Quantifier}
 use Rattle.rules.specs.declared.row.Quantifier.the-variants.{Forall, Exists}
 use Rattle.rules.specs.declared.row.Row.{Row}

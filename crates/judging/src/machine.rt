@@ -18,7 +18,6 @@ use crate::known::Known;
 use crate::occurrence::occurs;
 use crate::seeking::seek;
 use crate::slots::next_coded;
-use stacks::Stack;
 use crate::sweep::Outcome;
 use crate::sweep::absorb;
 use crate::sweep::close;
@@ -37,6 +36,7 @@ use meaning::verdict::Verdict;
 use rules::row::Connective;
 use rules::row::Quantifier;
 use rules::row::Row;
+use stacks::Stack;
 
 // The verdict of a connective that its left side decides.
 fn decide(connective: Connective, left: Verdict) -> Option<Verdict>
@@ -283,7 +283,18 @@ fn ascend<L: ReadingLog>(
             depth,
             next,
             so_far,
-        } => tell_value(log, rows, quantifying, window, depth, next, so_far, v, known, stack),
+        } => tell_value(
+            log,
+            rows,
+            quantifying,
+            window,
+            depth,
+            next,
+            so_far,
+            v,
+            known,
+            stack,
+        ),
         JudgingRow::Places {
             scoping,
             window,
@@ -363,7 +374,17 @@ fn descend<L: ReadingLog>(
                 test: at + 1,
                 body: ends[at + 1],
             };
-            try_next(log, rows, scoping, window, window, None, Verdict::Holds, known, stack)
+            try_next(
+                log,
+                rows,
+                scoping,
+                window,
+                window,
+                None,
+                Verdict::Holds,
+                known,
+                stack,
+            )
         }
         Row::Quantify {
             quantifier,
@@ -376,7 +397,15 @@ fn descend<L: ReadingLog>(
                 code,
                 body: at + 1,
             };
-            next_value(rows, quantifying, window, 0, start_of(quantifier), known, stack)
+            next_value(
+                rows,
+                quantifying,
+                window,
+                0,
+                start_of(quantifier),
+                known,
+                stack,
+            )
         }
         _ => unreachable(),
     }
@@ -413,14 +442,7 @@ pub(crate) fn run<L: ReadingLog>(
             ),
             Turn::Told { verdict } => match stack.pop() {
                 None => return verdict,
-                Some(waiting) => turn = ascend(
-                    log,
-                    rows,
-                    verdict,
-                    waiting,
-                    &mut known,
-                    &mut stack,
-                ),
+                Some(waiting) => turn = ascend(log, rows, verdict, waiting, &mut known, &mut stack),
             },
         }
     }

@@ -39,12 +39,7 @@ fn compare(relation: Relation, x: Result<i32, Origin>, y: Result<i32, Origin>) -
 }
 
 // The answer of the test whose rows begin at `at`, asked at `place`, and the row behind it.
-pub(crate) fn test(
-    rows: &[Row],
-    at: usize,
-    known: &[Variable],
-    place: u16,
-) -> (Verdict, usize)
+pub(crate) fn test(rows: &[Row], at: usize, known: &[Variable], place: u16) -> (Verdict, usize)
     requires within { ⌜ at < length (now rows) ⌝ }
     requires spelt { ⌜ ((t : Test) × Begins (now rows) at (testRows t)) ⌝ }
     ensures { λ r. ⌜ ((t : Test) → Begins (now (rows .entry)) at (testRows t) → TestAt (now (known .entry)) place at t r) ⌝ }

@@ -95,7 +95,7 @@ module _ (f : ℕ → Verdict) where
 
 -- One more place at the end.
 
-and-assoc : (u v w : Verdict) → and3 (and3 u v) w ≡ and3 u (and3 v w)
+pub and-assoc : (u v w : Verdict) → and3 (and3 u v) w ≡ and3 u (and3 v w)
 and-assoc Holds v w = refl
 and-assoc Fails v w = refl
 and-assoc (Open o) Holds w = refl
@@ -105,7 +105,7 @@ and-assoc (Open o) (Open p) Fails = refl
 and-assoc (Open o) (Open p) (Open q) = refl
 
 -- what holds says nothing
-and-nothing : (v : Verdict) → and3 v Holds ≡ v
+pub and-nothing : (v : Verdict) → and3 v Holds ≡ v
 and-nothing Holds = refl
 and-nothing Fails = refl
 and-nothing (Open o) = refl

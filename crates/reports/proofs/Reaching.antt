@@ -1,8 +1,8 @@
 -- No rule of a sheet needs more working rows than a sheet can have.
 use mathlib.Core.Path.{_≡_, ap, _∙_}
 use mathlib.Core.Bool.{true}
-use mathlib.Core.List.{List, _++_}
-use Prim.Native.Nat.{ℕ, suc, _+_, _<_, _≤_}
+use mathlib.Core.List.{List}
+use Prim.Native.Nat.{ℕ, _<_, _≤_}
 use native.Mathlib.Omega.{arith}
 use lib.ListN.{length, length-append, length-drop}
 use Rattle.std.proofs.shelf.Tests.{cond-true, cond-false, lt-ltb, le-ltb}
@@ -14,7 +14,7 @@ use Rattle.rules.specs.declared.row.Row.{Row}
 use Rattle.rules.specs.declared.sheet.Sheet.{Sheet}
 use Rattle.rules.specs.Trees.{Property, notP, connect, occurrence, absence, scope, quantify, rows, testRows, reachOf, Begins}
 use Rattle.rules.specs.Sheets.{held}
-use Rattle.rules.specs.Written.{ruleAt, startOf}
+use Rattle.rules.specs.Written.{ruleAt}
 use Rattle.rules.proofs.Sheets.{rows-few, rule-begins}
 use Rattle.meaning.specs.declared.verdict.Verdict.{Verdict}
 use Rattle.judging.specs.declared.judge.JudgeRefusal.{JudgeRefusal}

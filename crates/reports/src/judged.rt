@@ -12,13 +12,17 @@ use rules::limits::MOST_ROWS;
 use rules::limits::MOST_RULES;
 use rules::sheet::Sheet;
 
-// The verdicts of all rules, in the order of the sheet, and how many there are. No sheet has more rules
-// or needs more working rows.
+// As many working rows, and as many verdicts, as any sheet can need.
+pub type WorkingRows = [JudgingRow; MOST_ROWS];
+
+pub type Verdicts = [Verdict; MOST_RULES];
+
+// The verdicts of all rules, in the order of the sheet, and how many there are.
 pub fn judge_all<L: ReadingLog>(
     log: &L,
     sheet: &Sheet,
-    work: &mut [JudgingRow; MOST_ROWS],
-    verdicts: &mut [Verdict; MOST_RULES],
+    work: &mut WorkingRows,
+    verdicts: &mut Verdicts,
 ) -> usize
     ensures count { λ r. ⌜ r ≡ sheetHeld (now (sheet .entry)) .0 ⌝ }
     ensures judged { λ r. ⌜ now (verdicts .exit) ≡ verdictsOf (events (now (log .entry))) (sheetHeld (now (sheet .entry))) ++ drop r (now (verdicts .entry)) ⌝ }

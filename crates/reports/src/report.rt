@@ -4,20 +4,18 @@ ghost use Rattle.reports.specs.Reports.{reportAnswer, reportVerdicts};
 use crate::input::InputRefusal;
 use crate::input::refusal;
 use crate::input::split;
+use crate::judged::Verdicts;
+use crate::judged::WorkingRows;
 use crate::judged::judge_all;
-use judging::working::JudgingRow;
 use logs::image::ImageLog;
 use logs::image::reads::ImageReads;
-use meaning::verdict::Verdict;
-use rules::limits::MOST_ROWS;
-use rules::limits::MOST_RULES;
 use rules::sheet::Sheet;
 
 // The verdicts of all rules of an input, and how many there are, or why nothing is judged.
 pub fn report(
     bytes: &[u8],
-    work: &mut [JudgingRow; MOST_ROWS],
-    verdicts: &mut [Verdict; MOST_RULES],
+    work: &mut WorkingRows,
+    verdicts: &mut Verdicts,
 ) -> Result<usize, InputRefusal>
     ensures answer { λ r. ⌜ r ≡ reportAnswer (now (bytes .entry)) ⌝ }
     ensures judged { λ _. ⌜ now (verdicts .exit) ≡ reportVerdicts (now (bytes .entry)) (now (verdicts .entry)) ⌝ }

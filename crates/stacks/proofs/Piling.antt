@@ -1,6 +1,6 @@
 -- One item more on a pile, and one less.
-use mathlib.Core.Path.{_≡_, refl, sym, ap, _∙_}
-use mathlib.Core.List.{List, [], _∷_, _++_, reverse}
+use mathlib.Core.Path.{_≡_, ap, _∙_}
+use mathlib.Core.List.{List, [], _∷_, reverse}
 use mathlib.Core.Bool.{true, false, cond}
 use Prim.Native.Nat.{ℕ, _+_, _-_, _<_, _≤_}
 use native.Mathlib.Omega.{arith}
@@ -8,9 +8,7 @@ use lib.Dec.{ltb}
 use lib.ListN.{length, getD, set, take}
 use borrow.Author.Tests.{lt-ltb, le-ltb}
 use Rattle.std.proofs.shelf.Lists.{take-more, take-more-set, reverse-append, length-reverse, length-take-le}
-use denote.Ref.{now}
-use Rattle.stacks.specs.declared.Stack.{Stack}
-use Rattle.stacks.specs.Stacks.{pile, held, room, withItem}
+use Rattle.stacks.specs.Stacks.{pile, withItem}
 
 pub pile-push : {T : Type 0} (used : ℕ) (slots : List T) (x : T) → used < length slots → pile (used + 1) (set slots used x) ≡ x ∷ pile used slots
 pile-push used slots x h = ap reverse (take-more-set slots used x h) ∙ reverse-append (take used slots) (x ∷ [])

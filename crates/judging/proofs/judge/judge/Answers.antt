@@ -1,4 +1,4 @@
-use mathlib.Core.Path.{_≡_, refl, sym, ap, ap₂, subst, _∙_}
+use mathlib.Core.Path.{sym, ap₂, subst, _∙_}
 use mathlib.Core.List.{[]}
 use Prim.Native.Nat.{_<_, _≤_}
 use lib.ListN.{length}

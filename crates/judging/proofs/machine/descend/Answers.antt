@@ -1,20 +1,18 @@
-use mathlib.Core.Path.{_≡_, refl, sym, ap, subst, _∙_}
+use mathlib.Core.Path.{refl, sym, ap, subst, _∙_}
 use mathlib.Core.List.{_∷_}
-use Prim.Native.Nat.{_+_, _<_, _≤_}
+use Prim.Native.Nat.{_+_, _<_}
 use native.Mathlib.Omega.{arith}
 use lib.ListN.{length, getD}
 use Rattle.std.proofs.shelf.Tests.{and-parts}
-use Rattle.std.specs.declared.option.Option.the-variants.{None}
 use Rattle.rules.specs.declared.row.Row.the-variants.{Not}
 use Rattle.rules.specs.Trees.{rows, testRows, Begins}
 use Rattle.rules.specs.Forest.{propertyAt}
 use Rattle.rules.proofs.Heads.{property-by, test-within, property-within}
-use Rattle.meaning.specs.declared.verdict.Verdict.the-variants.{Holds}
 use Rattle.meaning.specs.Three.{not3, atLeast3}
 use Rattle.meaning.specs.Terms.{asked}
 use Rattle.meaning.specs.Windows.{within}
 use Rattle.meaning.specs.Verdicts.{judged}
-use Rattle.judging.specs.declared.working.JudgingRow.the-variants.{Negation, Left}
+use Rattle.judging.specs.declared.working.JudgingRow.the-variants.{Left}
 use Rattle.judging.specs.declared.working.Quantifying.{Quantifying}
 use Rattle.judging.specs.declared.working.Scoping.{Scoping}
 use Rattle.judging.specs.Bindings.{bindings}

@@ -1,5 +1,4 @@
 use mathlib.Core.Path.{subst}
-use borrow.Author.Needs.{needs}
 use Rattle.rules.proofs.Heads.{property-within}
 use Rattle.judging.specs.Bindings.{bindings}
 use Rattle.judging.specs.Machine.{Valid}

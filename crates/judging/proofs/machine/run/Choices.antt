@@ -1,6 +1,5 @@
 use mathlib.Core.Path.{_≡_}
 use mathlib.Core.List.{[]}
-use lib.ListN.{length}
 use Rattle.judging.specs.Bindings.{bindings}
 use Rattle.judging.specs.Machine.{Valid, worth, turnsLeft}
 use Rattle.stacks.specs.Stacks.{held, room}

@@ -1,13 +1,11 @@
-use mathlib.Core.Path.{_≡_, refl, sym, ap, ap₂, _∙_}
+use mathlib.Core.Path.{refl, ap, ap₂, _∙_}
 use mathlib.Core.List.{_∷_}
 use Prim.Native.Nat.{_<_}
 use native.Mathlib.Omega.{arith}
 use lib.ListN.{length}
 use Rattle.judging.specs.declared.working.JudgingRow.the-variants.{Places}
 use Rattle.judging.specs.declared.working.Turn.the-variants.{Ask}
-use Rattle.judging.specs.Bindings.{bindings}
 use Rattle.stacks.specs.Stacks.{held, room}
-use Rattle.judging.specs.Sweeps.{doubted}
 use Rattle.stacks.proofs.Piling.{with-room}
 use Rattle.judging.proofs.Turns.{onto, next-found}
 use Rattle.judging.proofs.machine.try_next.Needs as need
@@ -22,7 +20,7 @@ returns-in-Some g c =
     let deep = c .pre .ready .body .deep in
     let free : length s < room (c .args .stack .now) = omega arith in
     let items = c .push .ensures .items ∙ with-room _ _ s free
-        ∙ ap₂ (λ d l. Places sc (c .args .window) d (x .left) (x .test) l (c .args .so-far) ∷ s) (c .depth-depth .ensures) (c .doubt-lowest .ensures) in
+    ∙ ap₂ (λ d l. Places sc (c .args .window) d (x .left) (x .test) l (c .args .so-far) ∷ s) (c .depth-depth .ensures) (c .doubt-lowest .ensures) in
     record {
       onward = onto es rows _ (next-found es rows _ _ s sc (c .args .window) (c .args .places) (c .args .lowest) (c .args .so-far) (c .pre .ready) (c .pre .waits) x _ (c .in-Some .ensures tt)) refl (ap (Ask (sc .body)) (c .cut .ensures)) items;
       space = c .push .ensures .space;

@@ -1,10 +1,9 @@
 use mathlib.Core.Path.{_≡_, refl, sym, ap, ap₂, subst, _∙_}
 use mathlib.Core.Bool.{cond}
-use Prim.Native.Nat.{ℕ, _+_, _-_, _≤_, _<_}
+use Prim.Native.Nat.{_+_, _-_, _≤_}
 use native.Mathlib.Omega.{arith}
 use lib.Dec.{eqb}
-use lib.ListN.{length, take}
-use Rattle.logs.specs.Events.{eventAt}
+use lib.ListN.{take}
 use Rattle.rules.specs.Forest.{testAt}
 use Rattle.meaning.specs.declared.verdict.Variable.the-variants.{Event}
 use Rattle.meaning.specs.Terms.{_⊕_, asked}
@@ -37,10 +36,10 @@ loop-place-again g c =
     let most = noted-most (f i) (c .loop-place .tally) (i - c .args .window .0) (c .loop-place .inv .2) in
     let most′ = subst (λ u. u .yes + u .«open» ≤ i - c .args .window .0 + 1) (sym t) most in (
       c .truncate .ensures
-      ∙ ap₂ take (c .depth-depth .ensures) (c .ask-answer .ensures .known ∙ ap (λ θ. cond (eqb (c .event-at .result .name) (c .args .name)) (θ ⊕ Event (c .event-at .result)) θ) same)
-      ∙ forgotten-if η (Event (c .event-at .result)) _,
+          ∙ ap₂ take (c .depth-depth .ensures) (c .ask-answer .ensures .known ∙ ap (λ θ. cond (eqb (c .event-at .result .name) (c .args .name)) (θ ⊕ Event (c .event-at .result)) θ) same)
+          ∙ forgotten-if η (Event (c .event-at .result)) _,
       ap (λ u. ending n u (places (i + 1) to) f) t ∙ sym (ending-next n f (c .loop-place .tally) i (places (i + 1) to))
-      ∙ ap (λ l. ending n (c .loop-place .tally) l f) (sym (places-next i to (c .loop-place-test .taken))) ∙ c .loop-place .inv .1,
+          ∙ ap (λ l. ending n (c .loop-place .tally) l f) (sym (places-next i to (c .loop-place-test .taken))) ∙ c .loop-place .inv .1,
       omega (arith, most′),
     )
 

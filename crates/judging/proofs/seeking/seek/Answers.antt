@@ -1,6 +1,5 @@
 use mathlib.Core.Path.{_≡_, refl, sym, ap, ap₂, _∙_}
 use mathlib.Core.Bool.{cond}
-use mathlib.Core.List.{[]}
 use native.Mathlib.Omega.{arith}
 use lib.Dec.{eqb}
 use lib.ListN.{take}
@@ -30,10 +29,10 @@ loop-left-again g c =
     let answer : c .ask-test .result ≡ delimiterTest es rows sc η place
     = c .ask-test .ensures .answer ∙ ap₂ (λ e θ. answerFor e θ (sc .test) (sc .name) (testAt rows (sc .test)) place) (c .event-at-event .ensures) same in (
       c .truncate .ensures
-      ∙ ap₂ take (c .depth-depth .ensures) (c .ask-test .ensures .known ∙ ap (λ θ. cond (eqb (event .name) (sc .name)) (θ ⊕ Event event) θ) same)
-      ∙ forgotten-if η (Event event) _,
+          ∙ ap₂ take (c .depth-depth .ensures) (c .ask-test .ensures .known ∙ ap (λ θ. cond (eqb (event .name) (sc .name)) (θ ⊕ Event event) θ) same)
+          ∙ forgotten-if η (Event event) _,
       passed es rows sc (c .args .so-far) η (c .loop-left .inv .1) (c .next-place-place .ensures)
-      (ap (needed (sc .pick) (c .args .so-far)) (sym answer) ∙ sym (c .is-needed .ensures) ∙ c .if-is-needed .left),
+          (ap (needed (sc .pick) (c .args .so-far)) (sym answer) ∙ sym (c .is-needed .ensures) ∙ c .if-is-needed .left),
     )
 
 pub returns-then-is-needed : need.returns-then-is-needed

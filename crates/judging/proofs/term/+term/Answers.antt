@@ -1,10 +1,8 @@
-use mathlib.Core.Path.{_≡_, refl, sym, ap, _∙_}
+use mathlib.Core.Path.{refl}
 use Prim.Native.Nat.{_+_}
 use native.Mathlib.Omega.{arith}
 use borrow.Author.Needs.{needs}
-use lib.ListN.{length}
-use Rattle.std.proofs.shelf.Signed.{toZ-ofZ}
-use Rattle.rules.specs.Trees.{Term, Begins, termRows}
+use Rattle.rules.specs.Trees.{Begins, termRows}
 use Rattle.rules.specs.declared.row.Row.the-variants.{Not}
 use Rattle.rules.proofs.Heads.{term-by, term-within, no-term}
 use Rattle.judging.proofs.Joins.{joined-term}

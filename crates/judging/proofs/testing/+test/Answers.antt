@@ -1,7 +1,6 @@
-use mathlib.Core.Path.{_≡_, refl}
+use mathlib.Core.Path.{refl}
 use Prim.Native.Nat.{_+_}
 use native.Mathlib.Omega.{arith}
-use lib.ListN.{length}
 use Rattle.rules.specs.Trees.{Begins, termRows, testRows}
 use Rattle.rules.specs.declared.row.Row.the-variants.{Not}
 use Rattle.rules.proofs.Heads.{test-by, test-within, term-within, no-test}

@@ -1,7 +1,7 @@
-use mathlib.Core.Path.{_≡_, refl, ap, sym, _∙_}
-use mathlib.Core.Bool.{false, cond, not}
-use Prim.Native.Nat.{ℕ, _+_}
-use lib.Dec.{eqb, ltb}
+use mathlib.Core.Path.{ap, sym, _∙_}
+use mathlib.Core.Bool.{cond, not}
+use Prim.Native.Nat.{_+_}
+use lib.Dec.{ltb}
 use borrow.Author.Tests.{ne-eqb}
 use Rattle.logs.specs.Lawful.{timeAt}
 use Rattle.meaning.specs.Three.{count}

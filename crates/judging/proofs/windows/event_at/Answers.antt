@@ -1,4 +1,4 @@
-use mathlib.Core.Path.{_≡_, ap, ap₂, _∙_}
+use mathlib.Core.Path.{ap₂, _∙_}
 use Rattle.std.specs.Options.{valueOr}
 use Rattle.logs.specs.Events.{blank}
 use Rattle.judging.proofs.Halving.{nth-or}

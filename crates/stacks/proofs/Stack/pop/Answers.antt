@@ -1,4 +1,3 @@
-use borrow.Author.Needs.{needs}
 use mathlib.Core.Path.{refl, sym, ap}
 use Rattle.stacks.specs.Stacks.{headOf, tailOf}
 use Rattle.stacks.proofs.Piling.{pile-pop}

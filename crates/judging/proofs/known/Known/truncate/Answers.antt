@@ -1,7 +1,7 @@
 use mathlib.Core.Path.{sym}
 use Prim.Native.Nat.{_≤_}
 use native.Mathlib.Omega.{arith}
-use lib.ListN.{length, take}
+use lib.ListN.{length}
 use Rattle.std.proofs.shelf.Lists.{length-take, take-take, take-all}
 use Rattle.judging.specs.Bindings.{bindings}
 use Rattle.judging.proofs.known.Known.truncate.Needs as need
