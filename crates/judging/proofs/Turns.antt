@@ -42,6 +42,7 @@ use Rattle.judging.specs.declared.sweep.Outcome.the-variants.{Settled, SoFar}
 use Rattle.judging.specs.declared.working.Found.{Found}
 use Rattle.judging.specs.declared.working.JudgingRow.{JudgingRow}
 use Rattle.judging.specs.declared.working.JudgingRow.the-variants.{Negation, Left, Values, Places}
+use Rattle.judging.specs.declared.working.PlacesRow.{PlacesRow}
 use Rattle.judging.specs.declared.working.Quantifying.{Quantifying}
 use Rattle.judging.specs.declared.working.Scoping.{Scoping}
 use Rattle.judging.specs.declared.working.Turn.{Turn}
@@ -128,6 +129,10 @@ sweep-on o f p d s i is v e h =
     ap (λ x. cond (needed o s x) (elim (absorbed o x (doubted o x d) s (p i)) [ Settled u ↦ u | SoFar u ↦ swept o f p (doubted o x d) u is ]) (swept o f p d s is)) (sym e)
     ∙ ap (λ b. cond b (elim (absorbed o v (doubted o v d) s (p i)) [ Settled u ↦ u | SoFar u ↦ swept o f p (doubted o v d) u is ]) (swept o f p d s is)) h
 
+-- a scope at the delimiter that was found
+abbrev pub tried : Scoping → Window → (depth : ℕ) → Found → Option Origin → Verdict → PlacesRow
+tried sc w d x low u = record { scoping = sc; window = w; depth = d; left = x .left; test = x .test; lowest = low; verdict = u }
+
 module _ (es : List Event) (rs : List Row) (room : ℕ) where
   goes-on : (sc : Scoping) (η : Variables) (w : Window) (d : Option Origin) (left : Window) (x : Outcome) →
       elim x [ Settled u ↦ u | SoFar u ↦ swept (sc .pick) (delimiterTest es rs sc η) (inner es rs sc η w) d u (order (sc .pick) left) ] ≡ continued es rs sc η w d left x
@@ -165,7 +170,7 @@ module _ (es : List Event) (rs : List Row) (room : ℕ) where
         }
 
     pub on-connect : (c : Connective) (p q : Property) (right : ℕ) → propertyAt rs at ≡ connect c p q → Begins rs (at + 1) (rows p) → Begins rs right (rows q) → right ≡ at + 1 + length (rows p) →
-        At η (Ask (at + 1) w) (Left c right w (length η) ∷ s)
+        At η (Ask (at + 1) w) (Left (record { connective = c; right = right; window = w; depth = length η }) ∷ s)
     on-connect c p q right e b d place =
         let k = ok .stands in
         let i = property-is rs (at + 1) p b in
@@ -204,7 +209,7 @@ module _ (es : List Event) (rs : List Row) (room : ℕ) where
     none-left e = record { valid = waits; same = ap (resume es rs η s) (sym e); nearer = omega arith }
 
     pub next-found : (x : Found) (θ : Variables) → FoundAt es rs sc u left η θ x →
-        Trying θ (Ask (sc .body) (window (sc .side) (timeAt es) (sc .duration) (x .place) w)) (Places sc w (length η) (x .left) (x .test) (doubted (sc .pick) (x .test) low) u ∷ s)
+        Trying θ (Ask (sc .body) (window (sc .side) (timeAt es) (sc .duration) (x .place) w)) (Places (tried sc w (length η) x (doubted (sc .pick) (x .test) low) u) ∷ s)
     next-found x θ k =
         let e = var.Event (eventAt es (x .place)) in
         let o = sc .pick in
@@ -220,7 +225,7 @@ module _ (es : List Event) (rs : List Row) (room : ℕ) where
         let long : length (η ⊕ e) ≡ length η + 1 = length-push η e in
         let one : length s + 1 ≡ suc (length s) = omega arith in
         let cost = paid (x .left .1 - x .left .0) (left .1 - left .0) (stepsAt rs (sc .body)) (k .fewer .less) in
-        let next : Trying (η ⊕ e) (Ask (sc .body) (window (sc .side) (timeAt es) (sc .duration) (x .place) w)) (Places sc w (length η) (x .left) (x .test) d u ∷ s)
+        let next : Trying (η ⊕ e) (Ask (sc .body) (window (sc .side) (timeAt es) (sc .duration) (x .place) w)) (Places (tried sc w (length η) x d u) ∷ s)
         = record {
           valid = record {
             stands = subst (λ m. Standing rs m (sc .body) (suc (length s)) room) (sym long) (subst (λ n. Standing rs (length η + 1) (sc .body) n room) one b);
@@ -253,7 +258,7 @@ module _ (es : List Event) (rs : List Row) (room : ℕ) where
       nearer = omega arith;
     }
 
-    pub next-value : (j : ℕ) (v : Value) → k ≤ j → j < 4 → values k ≡ v ∷ values (j + 1) → Gathering (η ⊕ var.Number v) (Ask (q .body) w) (Values q w (length η) (j + 1) u ∷ s)
+    pub next-value : (j : ℕ) (v : Value) → k ≤ j → j < 4 → values k ≡ v ∷ values (j + 1) → Gathering (η ⊕ var.Number v) (Ask (q .body) w) (Values (record { quantifying = q; window = w; depth = length η; next = j + 1; verdict = u }) ∷ s)
     next-value j v h l e =
         let x = var.Number v in
         let b = ready .body in

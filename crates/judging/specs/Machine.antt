@@ -7,8 +7,8 @@ use lib.ListN.{length, take}
 use Rattle.std.specs.declared.option.Option.{Option}
 use Rattle.std.specs.declared.option.Option.the-variants.{Some, None}
 use Rattle.logs.specs.declared.event.Event.{Event}
-use Rattle.logs.specs.Events.{eventAt}
-use Rattle.logs.specs.Lawful.{timeAt}
+use Rattle.logs.specs.Events.{slotCount, eventAt}
+use Rattle.logs.specs.Lawful.{mostEvents, timeAt}
 use Rattle.rules.specs.declared.row.Connective.{Connective}
 use Rattle.rules.specs.declared.row.Connective.the-variants.{Or, And, Implies}
 use Rattle.rules.specs.declared.row.Quantifier.{Quantifier}
@@ -16,6 +16,7 @@ use Rattle.rules.specs.declared.row.Quantifier.the-variants.{Forall, Exists}
 use Rattle.rules.specs.declared.row.Row.{Row}
 use Rattle.rules.specs.Trees.{Property, notP, connect, occurrence, absence, scope, quantify, rows, testRows, Begins}
 use Rattle.rules.specs.Forest.{propertyAt, testAt}
+use Rattle.rules.specs.Limits.{deepest}
 use Rattle.rules.specs.Wanted.{Sorts}
 use Rattle.rules.specs.Scoped.{scoped as wellScoped}
 use Rattle.meaning.specs.declared.verdict.Origin.{Origin}
@@ -30,8 +31,10 @@ use Rattle.judging.specs.declared.sweep.Outcome.{Outcome}
 use Rattle.judging.specs.declared.sweep.Outcome.the-variants.{Settled, SoFar}
 use Rattle.judging.specs.declared.working.JudgingRow.{JudgingRow}
 use Rattle.judging.specs.declared.working.JudgingRow.the-variants.{Negation, Left, Right, Values, Places}
+use Rattle.judging.specs.declared.working.PlacesRow.{PlacesRow}
 use Rattle.judging.specs.declared.working.Quantifying.{Quantifying}
 use Rattle.judging.specs.declared.working.Scoping.{Scoping}
+use Rattle.judging.specs.declared.working.ValuesRow.{ValuesRow}
 use Rattle.judging.specs.declared.working.Turn.{Turn}
 use Rattle.judging.specs.declared.working.Turn.the-variants.{Ask, Told}
 use Rattle.meaning.specs.Terms.{codedFrom}
@@ -96,10 +99,12 @@ module _ (es : List Event) (rs : List Row) where
   abbrev pub resume : Variables → List JudgingRow → Verdict → Verdict
   resume η [] v = v
   resume η (Negation ∷ s) v = resume η s (not3 v)
-  resume η (Left c right w d ∷ s) v = resume (take d η) s (connected c v (judgedAt (take d η) w right))
+  resume η (Left x ∷ s) v = resume (take (x .depth) η) s (connected (x .connective) v (judgedAt (take (x .depth) η) (x .window) (x .right)))
   resume η (Right c u ∷ s) v = resume η s (connected c u v)
-  resume η (Values q w d k u ∷ s) v = resume (take d η) s (gathering q (take d η) w (combined (q .quantifier) u v) k)
-  resume η (Places sc w d left t low u ∷ s) v = resume (take d η) s (continued sc (take d η) w low left (absorbed (sc .pick) t low u v))
+  resume η (Values x ∷ s) v =
+      resume (take (x .depth) η) s (gathering (x .quantifying) (take (x .depth) η) (x .window) (combined (x .quantifying .quantifier) (x .verdict) v) (x .next))
+  resume η (Places x ∷ s) v =
+      resume (take (x .depth) η) s (continued (x .scoping) (take (x .depth) η) (x .window) (x .lowest) (x .left) (absorbed (x .scoping .pick) (x .test) (x .lowest) (x .verdict) v))
 
   abbrev pub worth : Variables → Turn → List JudgingRow → Verdict
   worth η (Ask at w) s = resume η s (judgedAt η w at)
@@ -112,8 +117,8 @@ steps (notP p) = 2 + steps p
 steps (connect c p q) = 3 + (steps p + steps q)
 steps (occurrence a n t) = 1
 steps (absence a t) = 1
-steps (scope s o a d t p) = 2 + 65535 * (1 + steps p)
-steps (quantify q a b p) = 2 + 4 * (1 + steps p)
+steps (scope s o a d t p) = 2 + mostEvents * (1 + steps p)
+steps (quantify q a b p) = 2 + slotCount * (1 + steps p)
 
 module _ (rs : List Row) where
   abbrev pub stepsAt : ℕ → ℕ
@@ -122,10 +127,10 @@ module _ (rs : List Row) where
   abbrev pub pending : List JudgingRow → ℕ
   pending [] = 0
   pending (Negation ∷ s) = 1 + pending s
-  pending (Left c right w d ∷ s) = 2 + (stepsAt right + pending s)
+  pending (Left x ∷ s) = 2 + (stepsAt (x .right) + pending s)
   pending (Right c u ∷ s) = 1 + pending s
-  pending (Values q w d k u ∷ s) = 1 + ((4 - k) * (1 + stepsAt (q .body)) + pending s)
-  pending (Places sc w d left t low u ∷ s) = 1 + ((left .1 - left .0) * (1 + stepsAt (sc .body)) + pending s)
+  pending (Values x ∷ s) = 1 + ((slotCount - x .next) * (1 + stepsAt (x .quantifying .body)) + pending s)
+  pending (Places x ∷ s) = 1 + ((x .left .1 - x .left .0) * (1 + stepsAt (x .scoping .body)) + pending s)
 
   abbrev pub turnsLeft : Turn → List JudgingRow → ℕ
   turnsLeft (Ask at w) s = stepsAt at + pending s
@@ -154,14 +159,14 @@ module _ (es : List Event) (rs : List Row) (room : ℕ) where
   -- the property of a quantifier can be judged with one more variable and one more working row
   pub record ValuesReady (m n : ℕ) (q : Quantifying) (w : Window) : Type 0 where
     pub body : Standing rs (m + 1) (q .body) (n + 1) room
-    pub space : m < 8
+    pub space : m < deepest
     pub inside : w .1 ≤ length es
 
   -- the test and the property of a scope can be judged so, at the places left
   pub record PlacesReady (m n : ℕ) (sc : Scoping) (w left : Window) : Type 0 where
     pub body : Standing rs (m + 1) (sc .body) (n + 1) room
     pub test : Begins rs (sc .test) (testRows (testAt rs (sc .test)))
-    pub space : m < 8
+    pub space : m < deepest
     pub inside : w .1 ≤ length es
     pub within : left .1 ≤ w .1
 
@@ -174,10 +179,10 @@ module _ (es : List Event) (rs : List Row) (room : ℕ) where
   abbrev pub Waits : Variables → List JudgingRow → Type 0
   Waits η [] = Unit {0}
   Waits η (Negation ∷ s) = Waits η s
-  Waits η (Left c right w d ∷ s) = RightReady (length (take d η)) (length s) right w × Waits (take d η) s
+  Waits η (Left x ∷ s) = RightReady (length (take (x .depth) η)) (length s) (x .right) (x .window) × Waits (take (x .depth) η) s
   Waits η (Right c u ∷ s) = Waits η s
-  Waits η (Values q w d k u ∷ s) = ValuesReady (length (take d η)) (length s) q w × Waits (take d η) s
-  Waits η (Places sc w d left t low u ∷ s) = PlacesReady (length (take d η)) (length s) sc w left × Waits (take d η) s
+  Waits η (Values x ∷ s) = ValuesReady (length (take (x .depth) η)) (length s) (x .quantifying) (x .window) × Waits (take (x .depth) η) s
+  Waits η (Places x ∷ s) = PlacesReady (length (take (x .depth) η)) (length s) (x .scoping) (x .window) (x .left) × Waits (take (x .depth) η) s
 
   pub record Asking (η : Variables) (at : ℕ) (w : Window) (s : List JudgingRow) : Type 0 where
     pub stands : Standing rs (length η) at (length s) room
@@ -194,10 +199,19 @@ module _ (es : List Event) (rs : List Row) (room : ℕ) where
     pub same : worth es rs η t s ≡ v
     pub nearer : turnsLeft rs t s < turns
 
-  -- one turn from a row, and one from a verdict that the newest row waits for
+  -- one turn from a row, from a verdict that the newest row waits for,
+  -- from the places of a scope that are still to be tried, and from the values of a quantifier that are still to come
 
   abbrev pub OnwardAsked : Variables → (at : ℕ) → Window → List JudgingRow → Variables → Turn → List JudgingRow → Type 0
   OnwardAsked η at w s θ t r = Onward θ t r (worth es rs η (Ask at w) s) (turnsLeft rs (Ask at w) s)
 
   abbrev pub OnwardTold : Variables → Verdict → List JudgingRow → Variables → Turn → List JudgingRow → Type 0
   OnwardTold η v s θ t r = Onward θ t r (worth es rs η (Told v) s) (turnsLeft rs (Told v) s)
+
+  abbrev pub OnwardTried : PlacesRow → Variables → List JudgingRow → Variables → Turn → List JudgingRow → Type 0
+  OnwardTried x η s θ t r =
+      Onward θ t r (resume es rs η s (sweeping es rs (x .scoping) η (x .window) (x .lowest) (x .verdict) (x .left))) (pending rs (Places x ∷ s))
+
+  abbrev pub OnwardValued : ValuesRow → Variables → List JudgingRow → Variables → Turn → List JudgingRow → Type 0
+  OnwardValued x η s θ t r =
+      Onward θ t r (resume es rs η s (gathering es rs (x .quantifying) η (x .window) (x .verdict) (x .next))) (pending rs (Values x ∷ s))

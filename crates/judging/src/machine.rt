@@ -1,13 +1,15 @@
 // A rule judged over a log, row by row, with the rows that wait on a stack.
 ghost use mathlib.Core.Path.{_≡_};
 ghost use mathlib.Core.List.{List, [], _∷_};
-ghost use Prim.Native.Nat.{_+_, _-_, _*_, _<_, _≤_};
-ghost use lib.ListN.{length};
+ghost use Prim.Native.Nat.{_+_, _-_, _<_, _≤_};
+ghost use lib.ListN.{length, take};
+ghost use Rattle.std.specs.declared.option.Option.the-variants.{None};
 ghost use Rattle.logs.specs.declared.event.Event.{Event as Ev};
-ghost use Rattle.rules.specs.Limits.{mostRows};
+ghost use Rattle.rules.specs.declared.row.Row.{Row as SheetRow};
+ghost use Rattle.rules.specs.Limits.{deepest, mostRows};
 ghost use Rattle.judging.specs.Bindings.{bindings};
 ghost use Rattle.judging.specs.Extents.{Ends};
-ghost use Rattle.judging.specs.Machine.{decided, start, combined, settles, judgedAt, sweeping, gathering, resume, stepsAt, pending, Standing, ValuesReady, PlacesReady, Waits, Asking, Onward, OnwardTold, OnwardAsked};
+ghost use Rattle.judging.specs.Machine.{decided, start, combined, settles, judgedAt, Standing, ValuesReady, PlacesReady, Waits, Asking, OnwardAsked, OnwardTold, OnwardTried, OnwardValued};
 ghost use Rattle.stacks.specs.Stacks.{held, room};
 use crate::combine::conjoin;
 use crate::combine::connect;
@@ -26,11 +28,13 @@ use crate::term::known_event;
 use crate::windows::cut;
 use crate::working::Found;
 use crate::working::JudgingRow;
+use crate::working::LeftRow;
+use crate::working::PlacesRow;
 use crate::working::Quantifying;
 use crate::working::Scoping;
 use crate::working::Turn;
+use crate::working::ValuesRow;
 use logs::log::ReadingLog;
-use meaning::verdict::Origin;
 use meaning::verdict::Variable;
 use meaning::verdict::Verdict;
 use rules::row::Connective;
@@ -81,27 +85,56 @@ fn is_settled(quantifier: Quantifier, so_far: Verdict) -> bool
     }
 }
 
-// One turn: to the next possible delimiter of a scope, or past the scope.
+// A scope before its first delimiter.
+fn whole_scope(scoping: Scoping, window: (u16, u16)) -> PlacesRow
+    ensures { λ r. ⌜ r ≡ record { scoping = scoping; window = window; depth = 0; left = window; test = Verdict.Fails; lowest = None; verdict = Verdict.Holds } ⌝ }
+{
+    PlacesRow {
+        scoping,
+        window,
+        depth: 0,
+        left: window,
+        test: Verdict::Fails,
+        lowest: None,
+        verdict: Verdict::Holds,
+    }
+}
+
+// A quantifier before its first value.
+fn whole_event(quantifying: Quantifying, window: (u16, u16)) -> ValuesRow
+    ensures { λ r. ⌜ r ≡ record { quantifying = quantifying; window = window; depth = 0; next = 0; verdict = start (quantifying .quantifier) } ⌝ }
+{
+    ValuesRow {
+        quantifying,
+        window,
+        depth: 0,
+        next: 0,
+        verdict: start_of(quantifying.quantifier),
+    }
+}
+
+// One turn: to the next delimiter of a scope where its property has to be judged, or past the scope.
 fn try_next<L: ReadingLog>(
     log: &L,
     rows: &[Row],
-    scoping: Scoping,
-    window: (u16, u16),
-    places: (u16, u16),
-    lowest: Option<Origin>,
-    so_far: Verdict,
+    row: PlacesRow,
     known: &mut Known,
     stack: &mut Stack<JudgingRow>,
 ) -> Turn
-    requires ready { ⌜ PlacesReady (events (now log)) (now rows) (room (now stack)) (length (bindings (now known))) (length (held (now stack))) scoping window places ⌝ }
+    requires ready { ⌜ PlacesReady (events (now log)) (now rows) (room (now stack)) (length (bindings (now known))) (length (held (now stack))) (row .scoping) (row .window) (row .left) ⌝ }
     requires waits { ⌜ Waits (events (now log)) (now rows) (room (now stack)) (bindings (now known)) (held (now stack)) ⌝ }
-    ensures onward { λ r. ⌜ Onward (events (now (log .entry))) (now (rows .entry)) (room (now (stack .entry))) (bindings (now (known .exit))) r (held (now (stack .exit))) (resume (events (now (log .entry))) (now (rows .entry)) (bindings (now (known .entry))) (held (now (stack .entry))) (sweeping (events (now (log .entry))) (now (rows .entry)) scoping (bindings (now (known .entry))) window lowest «so_far» places)) (1 + ((places .1 - places .0) * (1 + stepsAt (now (rows .entry)) (scoping .body)) + pending (now (rows .entry)) (held (now (stack .entry))))) ⌝ }
+    ensures onward { λ r. ⌜ OnwardTried (events (now (log .entry))) (now (rows .entry)) (room (now (stack .entry))) row (bindings (now (known .entry))) (held (now (stack .entry))) (bindings (now (known .exit))) r (held (now (stack .exit))) ⌝ }
     ensures space { λ _. ⌜ room (now (stack .exit)) ≡ room (now (stack .entry)) ⌝ }
 {
+    let PlacesRow {
+        scoping,
+        window,
+        ..
+    } = row;
     let depth = known.depth();
-    match seek(log, rows, scoping, so_far, places, known) {
+    match seek(log, rows, scoping, row.verdict, row.left, known) {
         None => Turn::Told {
-            verdict: close(lowest, so_far),
+            verdict: close(row.lowest, row.verdict),
         },
         Some(found) => {
             let Found {
@@ -110,16 +143,16 @@ fn try_next<L: ReadingLog>(
                 test,
                 left,
             } = found;
-            let lowest = doubt(scoping.pick, test, lowest);
-            stack.push(JudgingRow::Places {
+            let lowest = doubt(scoping.pick, test, row.lowest);
+            stack.push(JudgingRow::Places(PlacesRow {
                 scoping,
                 window,
                 depth,
                 left,
                 test,
                 lowest,
-                so_far,
-            });
+                verdict: row.verdict,
+            }));
             Turn::Ask {
                 at: scoping.body,
                 window: cut(log, scoping.side, scoping.duration, place, time, window),
@@ -129,31 +162,29 @@ fn try_next<L: ReadingLog>(
 }
 
 // One turn: to the next value of a quantifier, or past the quantifier.
-fn next_value(
-    rows: &[Row],
-    quantifying: Quantifying,
-    window: (u16, u16),
-    slot: usize,
-    so_far: Verdict,
-    known: &mut Known,
-    stack: &mut Stack<JudgingRow>,
-) -> Turn
-    requires free { ⌜ length (bindings (now known)) < 8 ⌝ }
-    ensures onward { λ r. ⌜ ((es : List Ev) → ValuesReady es (now (rows .entry)) (room (now (stack .entry))) (length (bindings (now (known .entry)))) (length (held (now (stack .entry)))) quantifying window → Waits es (now (rows .entry)) (room (now (stack .entry))) (bindings (now (known .entry))) (held (now (stack .entry))) → Onward es (now (rows .entry)) (room (now (stack .entry))) (bindings (now (known .exit))) r (held (now (stack .exit))) (resume es (now (rows .entry)) (bindings (now (known .entry))) (held (now (stack .entry))) (gathering es (now (rows .entry)) quantifying (bindings (now (known .entry))) window «so_far» slot)) (1 + ((4 - slot) * (1 + stepsAt (now (rows .entry)) (quantifying .body)) + pending (now (rows .entry)) (held (now (stack .entry)))))) ⌝ }
+fn next_value(row: ValuesRow, known: &mut Known, stack: &mut Stack<JudgingRow>) -> Turn
+    requires free { ⌜ length (bindings (now known)) < deepest ⌝ }
+    ensures onward { λ r. ⌜ ((es : List Ev) (rs : List SheetRow) → ValuesReady es rs (room (now (stack .entry))) (length (bindings (now (known .entry)))) (length (held (now (stack .entry)))) (row .quantifying) (row .window) → Waits es rs (room (now (stack .entry))) (bindings (now (known .entry))) (held (now (stack .entry))) → OnwardValued es rs (room (now (stack .entry))) row (bindings (now (known .entry))) (held (now (stack .entry))) (bindings (now (known .exit))) r (held (now (stack .exit)))) ⌝ }
     ensures space { λ _. ⌜ room (now (stack .exit)) ≡ room (now (stack .entry)) ⌝ }
 {
+    let ValuesRow {
+        quantifying,
+        window,
+        verdict,
+        ..
+    } = row;
     let depth = known.depth();
     let event = known_event(known.list(), quantifying.variable);
-    match next_coded(&event, quantifying.code, slot) {
-        None => Turn::Told { verdict: so_far },
+    match next_coded(&event, quantifying.code, row.next) {
+        None => Turn::Told { verdict },
         Some((found, value)) => {
-            stack.push(JudgingRow::Values {
+            stack.push(JudgingRow::Values(ValuesRow {
                 quantifying,
                 window,
                 depth,
                 next: found + 1,
-                so_far,
-            });
+                verdict,
+            }));
             known.bind(Variable::Number(value));
             Turn::Ask {
                 at: quantifying.body,
@@ -164,21 +195,16 @@ fn next_value(
 }
 
 // One turn, where the left side of a connective has the verdict v.
-fn tell_left<L: ReadingLog>(
-    log: &L,
-    rows: &[Row],
-    connective: Connective,
-    right: usize,
-    window: (u16, u16),
-    depth: usize,
-    v: Verdict,
-    known: &mut Known,
-    stack: &mut Stack<JudgingRow>,
-) -> Turn
-    requires waits { ⌜ Waits (events (now log)) (now rows) (room (now stack)) (bindings (now known)) (JudgingRow.Left connective right window depth ∷ held (now stack)) ⌝ }
-    ensures onward { λ r. ⌜ OnwardTold (events (now (log .entry))) (now (rows .entry)) (room (now (stack .entry))) (bindings (now (known .entry))) v (JudgingRow.Left connective right window depth ∷ held (now (stack .entry))) (bindings (now (known .exit))) r (held (now (stack .exit))) ⌝ }
+fn tell_left(row: LeftRow, v: Verdict, known: &mut Known, stack: &mut Stack<JudgingRow>) -> Turn
+    ensures onward { λ r. ⌜ ((es : List Ev) (rs : List SheetRow) → Waits es rs (room (now (stack .entry))) (bindings (now (known .entry))) (JudgingRow.Left row ∷ held (now (stack .entry))) → OnwardTold es rs (room (now (stack .entry))) (bindings (now (known .entry))) v (JudgingRow.Left row ∷ held (now (stack .entry))) (bindings (now (known .exit))) r (held (now (stack .exit)))) ⌝ }
     ensures space { λ _. ⌜ room (now (stack .exit)) ≡ room (now (stack .entry)) ⌝ }
 {
+    let LeftRow {
+        connective,
+        right,
+        window,
+        depth,
+    } = row;
     known.truncate(depth);
     match decide(connective, v) {
         Some(verdict) => Turn::Told { verdict },
@@ -193,63 +219,37 @@ fn tell_left<L: ReadingLog>(
 }
 
 // One turn, where the property of a quantifier has the verdict v for one more value.
-fn tell_value<L: ReadingLog>(
-    log: &L,
-    rows: &[Row],
-    quantifying: Quantifying,
-    window: (u16, u16),
-    depth: usize,
-    next: usize,
-    so_far: Verdict,
-    v: Verdict,
-    known: &mut Known,
-    stack: &mut Stack<JudgingRow>,
-) -> Turn
-    requires waits { ⌜ Waits (events (now log)) (now rows) (room (now stack)) (bindings (now known)) (JudgingRow.Values quantifying window depth next «so_far» ∷ held (now stack)) ⌝ }
-    ensures onward { λ r. ⌜ OnwardTold (events (now (log .entry))) (now (rows .entry)) (room (now (stack .entry))) (bindings (now (known .entry))) v (JudgingRow.Values quantifying window depth next «so_far» ∷ held (now (stack .entry))) (bindings (now (known .exit))) r (held (now (stack .exit))) ⌝ }
+fn tell_value(row: ValuesRow, v: Verdict, known: &mut Known, stack: &mut Stack<JudgingRow>) -> Turn
+    requires free { ⌜ length (take (row .depth) (bindings (now known))) < deepest ⌝ }
+    ensures onward { λ r. ⌜ ((es : List Ev) (rs : List SheetRow) → Waits es rs (room (now (stack .entry))) (bindings (now (known .entry))) (JudgingRow.Values row ∷ held (now (stack .entry))) → OnwardTold es rs (room (now (stack .entry))) (bindings (now (known .entry))) v (JudgingRow.Values row ∷ held (now (stack .entry))) (bindings (now (known .exit))) r (held (now (stack .exit)))) ⌝ }
     ensures space { λ _. ⌜ room (now (stack .exit)) ≡ room (now (stack .entry)) ⌝ }
 {
-    known.truncate(depth);
-    let so_far = gather(quantifying.quantifier, so_far, v);
-    if is_settled(quantifying.quantifier, so_far) {
-        return Turn::Told { verdict: so_far };
+    let quantifier = row.quantifying.quantifier;
+    known.truncate(row.depth);
+    let verdict = gather(quantifier, row.verdict, v);
+    if is_settled(quantifier, verdict) {
+        return Turn::Told { verdict };
     }
-    next_value(rows, quantifying, window, next, so_far, known, stack)
+    next_value(ValuesRow { verdict, ..row }, known, stack)
 }
 
 // One turn, where the property of a scope has the verdict v at one more delimiter.
 fn tell_place<L: ReadingLog>(
     log: &L,
     rows: &[Row],
-    scoping: Scoping,
-    window: (u16, u16),
-    depth: usize,
-    left: (u16, u16),
-    test: Verdict,
-    lowest: Option<Origin>,
-    so_far: Verdict,
+    row: PlacesRow,
     v: Verdict,
     known: &mut Known,
     stack: &mut Stack<JudgingRow>,
 ) -> Turn
-    requires waits { ⌜ Waits (events (now log)) (now rows) (room (now stack)) (bindings (now known)) (JudgingRow.Places scoping window depth left test lowest «so_far» ∷ held (now stack)) ⌝ }
-    ensures onward { λ r. ⌜ OnwardTold (events (now (log .entry))) (now (rows .entry)) (room (now (stack .entry))) (bindings (now (known .entry))) v (JudgingRow.Places scoping window depth left test lowest «so_far» ∷ held (now (stack .entry))) (bindings (now (known .exit))) r (held (now (stack .exit))) ⌝ }
+    requires waits { ⌜ Waits (events (now log)) (now rows) (room (now stack)) (bindings (now known)) (JudgingRow.Places row ∷ held (now stack)) ⌝ }
+    ensures onward { λ r. ⌜ OnwardTold (events (now (log .entry))) (now (rows .entry)) (room (now (stack .entry))) (bindings (now (known .entry))) v (JudgingRow.Places row ∷ held (now (stack .entry))) (bindings (now (known .exit))) r (held (now (stack .exit))) ⌝ }
     ensures space { λ _. ⌜ room (now (stack .exit)) ≡ room (now (stack .entry)) ⌝ }
 {
-    known.truncate(depth);
-    match absorb(scoping.pick, test, lowest, so_far, v) {
+    known.truncate(row.depth);
+    match absorb(row.scoping.pick, row.test, row.lowest, row.verdict, v) {
         Outcome::Settled(verdict) => Turn::Told { verdict },
-        Outcome::SoFar(so_far) => try_next(
-            log,
-            rows,
-            scoping,
-            window,
-            left,
-            lowest,
-            so_far,
-            known,
-            stack,
-        ),
+        Outcome::SoFar(verdict) => try_next(log, rows, PlacesRow { verdict, ..row }, known, stack),
     }
 }
 
@@ -268,55 +268,12 @@ fn ascend<L: ReadingLog>(
 {
     match waiting {
         JudgingRow::Negation => Turn::Told { verdict: negate(v) },
-        JudgingRow::Left {
-            connective,
-            right,
-            window,
-            depth,
-        } => tell_left(log, rows, connective, right, window, depth, v, known, stack),
+        JudgingRow::Left(row) => tell_left(row, v, known, stack),
         JudgingRow::Right { connective, left } => Turn::Told {
             verdict: connect(connective, left, v),
         },
-        JudgingRow::Values {
-            quantifying,
-            window,
-            depth,
-            next,
-            so_far,
-        } => tell_value(
-            log,
-            rows,
-            quantifying,
-            window,
-            depth,
-            next,
-            so_far,
-            v,
-            known,
-            stack,
-        ),
-        JudgingRow::Places {
-            scoping,
-            window,
-            depth,
-            left,
-            test,
-            lowest,
-            so_far,
-        } => tell_place(
-            log,
-            rows,
-            scoping,
-            window,
-            depth,
-            left,
-            test,
-            lowest,
-            so_far,
-            v,
-            known,
-            stack,
-        ),
+        JudgingRow::Values(row) => tell_value(row, v, known, stack),
+        JudgingRow::Places(row) => tell_place(log, rows, row, v, known, stack),
     }
 }
 
@@ -346,12 +303,12 @@ fn descend<L: ReadingLog>(
         Row::Connect { connective } => {
             let right = ends[at + 1];
             let depth = known.depth();
-            stack.push(JudgingRow::Left {
+            stack.push(JudgingRow::Left(LeftRow {
                 connective,
                 right,
                 window,
                 depth,
-            });
+            }));
             Turn::Ask { at: at + 1, window }
         }
         Row::Occurrence { name, count } => Turn::Told {
@@ -374,17 +331,7 @@ fn descend<L: ReadingLog>(
                 test: at + 1,
                 body: ends[at + 1],
             };
-            try_next(
-                log,
-                rows,
-                scoping,
-                window,
-                window,
-                None,
-                Verdict::Holds,
-                known,
-                stack,
-            )
+            try_next(log, rows, whole_scope(scoping, window), known, stack)
         }
         Row::Quantify {
             quantifier,
@@ -397,15 +344,7 @@ fn descend<L: ReadingLog>(
                 code,
                 body: at + 1,
             };
-            next_value(
-                rows,
-                quantifying,
-                window,
-                0,
-                start_of(quantifier),
-                known,
-                stack,
-            )
+            next_value(whole_event(quantifying, window), known, stack)
         }
         _ => unreachable(),
     }

@@ -26,38 +26,50 @@ pub struct Quantifying {
     pub body: usize,
 }
 
-// A property row whose verdict waits for that of a property below it:
-// a negation, a connective at its left or its right side, a quantifier at one of its values,
-// a scope at one of its delimiters. `depth` is how many variables are known at the row.
+// A connective that waits for its left side: the row of its right side, and where it is judged.
+// `depth` is how many variables are known at the row, here and below.
+#[derive(Clone, Copy)]
+pub struct LeftRow {
+    pub connective: Connective,
+    pub right: usize,
+    pub window: (u16, u16),
+    pub depth: usize,
+}
+
+// A quantifier at one of its values: the slot where the next ones are looked for, and what stands so far.
+#[derive(Clone, Copy)]
+pub struct ValuesRow {
+    pub quantifying: Quantifying,
+    pub window: (u16, u16),
+    pub depth: usize,
+    pub next: usize,
+    pub verdict: Verdict,
+}
+
+// A scope at one of its delimiters: the places still to be tried, the delimiter's test,
+// the lowest open test, and what stands so far.
+#[derive(Clone, Copy)]
+pub struct PlacesRow {
+    pub scoping: Scoping,
+    pub window: (u16, u16),
+    pub depth: usize,
+    pub left: (u16, u16),
+    pub test: Verdict,
+    pub lowest: Option<Origin>,
+    pub verdict: Verdict,
+}
+
+// A property row whose verdict waits for that of a property below it.
 #[derive(Clone, Copy)]
 pub enum JudgingRow {
     Negation,
-    Left {
-        connective: Connective,
-        right: usize,
-        window: (u16, u16),
-        depth: usize,
-    },
+    Left(LeftRow),
     Right {
         connective: Connective,
         left: Verdict,
     },
-    Values {
-        quantifying: Quantifying,
-        window: (u16, u16),
-        depth: usize,
-        next: usize,
-        so_far: Verdict,
-    },
-    Places {
-        scoping: Scoping,
-        window: (u16, u16),
-        depth: usize,
-        left: (u16, u16),
-        test: Verdict,
-        lowest: Option<Origin>,
-        so_far: Verdict,
-    },
+    Values(ValuesRow),
+    Places(PlacesRow),
 }
 
 // Where a judging is: at a row, in a window, or past a property whose verdict is known.

@@ -16,7 +16,7 @@ use Rattle.judging.specs.declared.working.JudgingRow.the-variants.{Left}
 use Rattle.judging.specs.declared.working.Quantifying.{Quantifying}
 use Rattle.judging.specs.declared.working.Scoping.{Scoping}
 use Rattle.judging.specs.Bindings.{bindings}
-use Rattle.judging.specs.Machine.{steps, depthOf}
+use Rattle.judging.specs.Machine.{steps, depthOf, PlacesReady, ValuesReady, OnwardTried, OnwardValued}
 use Rattle.stacks.specs.Stacks.{held, room}
 use Rattle.judging.proofs.Endings.{test-part, property-part, part-place}
 use Rattle.stacks.proofs.Piling.{with-room}
@@ -65,7 +65,8 @@ try-next-requires g c κs =
     let sc : Scoping = record { side = f .side; pick = f .pick; name = f .name; duration = f .duration; test = at + 1; body = getD (c .args .ends .now) (at + 1) 0 } in
     let place = part-place all (c .args .ends .now) (at + 1) (testRows (b .first)) (c .pre .ends) (test-part (b .first)) (b .left) (test-within all (at + 1) (b .first) (b .left)) in
     record {
-      ready = scope-ready es all _ _ at (c .args .window) _ (c .pre .valid) sc (b .first) (b .second) (b .is) (b .left) (subst (λ i. Begins all i (rows (b .second))) (sym place) (b .right)) refl place;
+      ready = subst (λ x. PlacesReady es all (room (c .args .stack .now)) (length (bindings (c .args .known .now))) (length (held (c .args .stack .now))) (x .scoping) (x .window) (x .left)) (sym (c .whole-scope .ensures))
+          (scope-ready es all _ _ at (c .args .window) _ (c .pre .valid) sc (b .first) (b .second) (b .is) (b .left) (subst (λ i. Begins all i (rows (b .second))) (sym place) (b .right)) refl place);
       waits = c .pre .valid .waits;
     }
 
@@ -104,7 +105,7 @@ returns-in-Connect g c =
     let deep = c .pre .valid .stands .deep in
     let taken = ap depthOf (b .is) in
     let free : length s < room (c .args .stack .now) = omega arith in
-    let items = c .push-in-Connect .ensures .items ∙ with-room _ _ s free ∙ ap (λ d. Left (c .in-Connect .connective) right w d ∷ s) (c .depth-depth .ensures) in
+    let items = c .push-in-Connect .ensures .items ∙ with-room _ _ s free ∙ ap (λ d. Left (record { connective = c .in-Connect .connective; right = right; window = w; depth = d }) ∷ s) (c .depth-depth .ensures) in
     record {
       onward = onto es all _ (on-connect es all _ _ at w s (c .pre .valid) (c .in-Connect .connective) (b .first) (b .second) right (b .is) (b .left) (subst (λ i. Begins all i (rows (b .second))) (sym place) (b .right)) place) refl refl items;
       space = c .push-in-Connect .ensures .space;
@@ -147,7 +148,8 @@ returns-in-Scope g c =
     let few = laws .within in
     let small = laws .small in
     record {
-      onward = from-scope es all _ _ at (c .args .window) _ (c .pre .valid) sc (b .first) (b .second) (b .is) (b .left) (subst (λ i. Begins all i (rows (b .second))) (sym place) (b .right)) refl place (omega arith) (c .try-next .ensures .onward);
+      onward = from-scope es all _ _ at (c .args .window) _ (c .pre .valid) sc (b .first) (b .second) (b .is) (b .left) (subst (λ i. Begins all i (rows (b .second))) (sym place) (b .right)) refl place (omega arith)
+          (subst (λ x. OnwardTried es all (room (c .args .stack .now)) x (bindings (c .args .known .now)) (held (c .args .stack .now)) (bindings (c .try-next .last .known)) (c .try-next .result) (held (c .try-next .last .stack))) (c .whole-scope .ensures) (c .try-next .ensures .onward));
       space = c .try-next .ensures .space;
     }
 
@@ -160,7 +162,10 @@ returns-in-Quantify g c =
     let b = property-by all at Not _ (f .is) _ (c .pre .valid .stands .begins) in
     let q : Quantifying = record { quantifier = f .quantifier; variable = f .variable; code = f .code; body = at + 1 } in
     let ready = quantify-ready es all _ _ at (c .args .window) _ (c .pre .valid) q (b .0) (b .1) (b .2) refl in
+    let same = c .whole-event .ensures in
+    let here = subst (λ x. ValuesReady es all (room (c .args .stack .now)) (length (bindings (c .args .known .now))) (length (held (c .args .stack .now))) (x .quantifying) (x .window)) (sym same) ready in
     record {
-      onward = from-quantify es all _ _ at (c .args .window) _ (c .pre .valid) q (b .0) (b .1) (b .2) refl (c .start-of .result) (c .start-of .ensures) (c .next-value .ensures .onward es ready (c .pre .valid .waits));
+      onward = from-quantify es all _ _ at (c .args .window) _ (c .pre .valid) q (b .0) (b .1) (b .2) refl _ refl
+          (subst (λ x. OnwardValued es all (room (c .args .stack .now)) x (bindings (c .args .known .now)) (held (c .args .stack .now)) (bindings (c .next-value .last .known)) (c .next-value .result) (held (c .next-value .last .stack))) same (c .next-value .ensures .onward es all here (c .pre .valid .waits)));
       space = c .next-value .ensures .space;
     }
