@@ -1,18 +1,14 @@
-use mathlib.Core.Path.{_≡_, refl, sym, ap, ap₂, subst, _∙_}
-use mathlib.Core.Bool.{cond}
+use mathlib.Core.Path.{refl, sym, ap, subst, _∙_}
 use Prim.Native.Nat.{_+_, _-_, _≤_}
 use native.Mathlib.Omega.{arith}
-use lib.Dec.{eqb}
-use lib.ListN.{take}
 use Rattle.rules.specs.Forest.{testAt}
 use Rattle.meaning.specs.declared.verdict.Variable.the-variants.{Event}
-use Rattle.meaning.specs.Terms.{_⊕_, asked}
+use Rattle.meaning.specs.Terms.{asked}
 use Rattle.meaning.specs.Windows.{places}
 use Rattle.meaning.proofs.Places.{places-next}
-use Rattle.meaning.specs.Terms.{answerFor}
 use Rattle.judging.specs.Bindings.{bindings}
 use Rattle.judging.specs.Tallies.{noted, ending}
-use Rattle.judging.proofs.Binding.{forgotten-if}
+use Rattle.judging.proofs.Binding.{asked-is, unbound}
 use Rattle.judging.proofs.Counting.{ending-start, ending-next, ending-certain, ending-none, noted-most, places-many, no-places}
 use Rattle.judging.proofs.occurrence.occurs.Needs as need
 
@@ -28,16 +24,11 @@ loop-place-again g c =
     let n = c .args .count in
     let i = c .loop-place .place in
     let to = c .args .window .1 in
-    let here = c .event-at .ensures in
-    let same = c .loop-place .inv .0 in
-    let answer : c .ask-answer .result ≡ f i
-    = c .ask-answer .ensures .answer ∙ ap₂ (λ e θ. answerFor e θ (c .args .at) (c .args .name) test i) here same in
+    let answer = asked-is es η (c .args .at) (c .args .name) test i (c .event-at .ensures) (c .loop-place .inv .0) (c .ask-answer .ensures .answer) in
     let t = c .note-tally .ensures ∙ ap (λ v. noted v (c .loop-place .tally)) answer in
     let most = noted-most (f i) (c .loop-place .tally) (i - c .args .window .0) (c .loop-place .inv .2) in
     let most′ = subst (λ u. u .yes + u .«open» ≤ i - c .args .window .0 + 1) (sym t) most in (
-      c .truncate .ensures
-          ∙ ap₂ take (c .depth-depth .ensures) (c .ask-answer .ensures .known ∙ ap (λ θ. cond (eqb (c .event-at .result .name) (c .args .name)) (θ ⊕ Event (c .event-at .result)) θ) same)
-          ∙ forgotten-if η (Event (c .event-at .result)) _,
+      unbound η (Event (c .event-at .result)) _ (c .depth-depth .ensures) (c .loop-place .inv .0) (c .ask-answer .ensures .known) (c .truncate .ensures),
       ap (λ u. ending n u (places (i + 1) to) f) t ∙ sym (ending-next n f (c .loop-place .tally) i (places (i + 1) to))
           ∙ ap (λ l. ending n (c .loop-place .tally) l f) (sym (places-next i to (c .loop-place-test .taken))) ∙ c .loop-place .inv .1,
       omega (arith, most′),

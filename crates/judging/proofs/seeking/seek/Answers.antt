@@ -1,16 +1,14 @@
-use mathlib.Core.Path.{_≡_, refl, sym, ap, ap₂, _∙_}
+use mathlib.Core.Path.{refl, sym, ap, ap₂, _∙_}
 use mathlib.Core.Bool.{cond}
 use native.Mathlib.Omega.{arith}
 use lib.Dec.{eqb}
-use lib.ListN.{take}
 use Rattle.rules.specs.Forest.{testAt}
 use Rattle.meaning.specs.declared.verdict.Variable.the-variants.{Event}
 use Rattle.meaning.specs.Terms.{_⊕_}
-use Rattle.meaning.specs.Terms.{answerFor}
 use Rattle.judging.specs.Bindings.{bindings}
 use Rattle.judging.specs.Seeking.{delimiterTest}
 use Rattle.judging.specs.Sweeps.{needed, swept}
-use Rattle.judging.proofs.Binding.{forgotten-if}
+use Rattle.judging.proofs.Binding.{asked-is, unbound}
 use Rattle.judging.proofs.Seeks.{trying-all, passed, tried, fewer, order-none, matched, is-possible}
 use Rattle.judging.proofs.seeking.seek.Needs as need
 
@@ -23,14 +21,8 @@ loop-left-again g c =
     let rows = c .args .rows .now in
     let sc = c .args .scoping in
     let η = bindings (c .args .known .now) in
-    let same = c .loop-left .inv .0 in
-    let event = c .event-at-event .result in
-    let place = c .next-place-place .result .0 in
-    let answer : c .ask-test .result ≡ delimiterTest es rows sc η place
-    = c .ask-test .ensures .answer ∙ ap₂ (λ e θ. answerFor e θ (sc .test) (sc .name) (testAt rows (sc .test)) place) (c .event-at-event .ensures) same in (
-      c .truncate .ensures
-          ∙ ap₂ take (c .depth-depth .ensures) (c .ask-test .ensures .known ∙ ap (λ θ. cond (eqb (event .name) (sc .name)) (θ ⊕ Event event) θ) same)
-          ∙ forgotten-if η (Event event) _,
+    let answer = asked-is es η (sc .test) (sc .name) (testAt rows (sc .test)) (c .next-place-place .result .0) (c .event-at-event .ensures) (c .loop-left .inv .0) (c .ask-test .ensures .answer) in (
+      unbound η (Event (c .event-at-event .result)) _ (c .depth-depth .ensures) (c .loop-left .inv .0) (c .ask-test .ensures .known) (c .truncate .ensures),
       passed es rows sc (c .args .so-far) η (c .loop-left .inv .1) (c .next-place-place .ensures)
           (ap (needed (sc .pick) (c .args .so-far)) (sym answer) ∙ sym (c .is-needed .ensures) ∙ c .if-is-needed .left),
     )
@@ -43,13 +35,12 @@ returns-then-is-needed g c =
     let η = bindings (c .args .known .now) in
     let same = c .loop-left .inv .0 in
     let event = c .event-at-event .result in
-    let place = c .next-place-place .result .0 in
     let counts = sym (c .is-needed .ensures) ∙ c .if-is-needed .taken in
     let named = matched (eqb (event .name) (sc .name)) _ _ (c .ask-test .ensures .answer) (is-possible (sc .pick) (c .args .so-far) _ counts) in
     let trying = c .loop-left .inv .1 in
     record {
       same = tried es rows sc (c .args .so-far) η trying (c .next-place-place .ensures);
-      test = c .ask-test .ensures .answer ∙ ap₂ (λ e θ. answerFor e θ (sc .test) (sc .name) (testAt rows (sc .test)) place) (c .event-at-event .ensures) same;
+      test = asked-is es η (sc .test) (sc .name) (testAt rows (sc .test)) (c .next-place-place .result .0) (c .event-at-event .ensures) same (c .ask-test .ensures .answer);
       counts = counts;
       time = ap (λ e. e .time) (c .event-at-event .ensures);
       bound = c .ask-test .ensures .known ∙ ap (λ b. cond b (bindings (c .loop-left .known) ⊕ Event event) (bindings (c .loop-left .known))) named
