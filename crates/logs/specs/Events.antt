@@ -3,7 +3,7 @@ use mathlib.Core.Bool.{Bool, true, false, _&&_}
 use mathlib.Core.List.{List, [], _∷_}
 use Prim.Native.Nat.{ℕ, _+_, min}
 use lib.Dec.{leb, ltb, eqb}
-use lib.ListN.{take, getD}
+use lib.ListN.{take, getD, replicate}
 use Rattle.logs.specs.declared.event.Event.{Event}
 use Rattle.logs.specs.declared.event.Value.{Value}
 use Rattle.logs.specs.declared.event.Value.the-variants.{Unread, Read}
@@ -38,7 +38,7 @@ abbrev pub slotsIn : ℕ → ℕ → List Value → Bool
 slotsIn n i [] = true
 slotsIn n i (v ∷ vs) = slotIn (ltb i n) v && slotsIn n (i + 1) vs
 
--- an event within its bounds
+-- an event within its bounds; names and codes are bytes and numbers are signed 32-bit ones by their types
 abbrev pub inBounds : Event → Bool
 inBounds e = leb (e .time) latest && (ltb 0 (e .name) && (leb (e .count) slotCount && slotsIn (e .count) 0 (e .slots)))
 
@@ -48,7 +48,7 @@ used e = take (min (e .count) slotCount) (e .slots)
 
 -- the event with nothing in it, which is outside its bounds
 abbrev pub blank : Event
-blank = record { time = 0; name = 0; count = 0; slots = empty ∷ empty ∷ empty ∷ empty ∷ [] }
+blank = record { time = 0; name = 0; count = 0; slots = replicate slotCount empty }
 
 -- the event at a place, or the blank one where there is none
 abbrev pub eventAt : List Event → ℕ → Event

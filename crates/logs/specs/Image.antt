@@ -14,7 +14,7 @@ use Rattle.std.specs.declared.option.Option.the-variants.{Some, None}
 use Rattle.logs.specs.declared.event.Event.{Event}
 use Rattle.logs.specs.declared.event.Value.{Value}
 use Rattle.logs.specs.declared.event.Value.the-variants.{Unread, Read}
-use Rattle.logs.specs.Events.{inBounds}
+use Rattle.logs.specs.Events.{slotCount, inBounds}
 
 abbrev pub byte : List ℕ → ℕ → ℕ
 byte bs i = getD bs i 0
@@ -33,28 +33,36 @@ signed bs i = toZ w32 (four bs i)
 abbrev pub eventCount : List ℕ → ℕ
 eventCount bs = two bs 0
 
+-- a slot has a code, a state and a number; a body has a name, a count, two zero bytes and the slots
+abbrev pub slotWidth : ℕ
+slotWidth = 6
+
 abbrev pub bodyWidth : ℕ
-bodyWidth = 28
+bodyWidth = 4 + slotWidth * slotCount
+
+-- a time and a body
+abbrev pub eventWidth : ℕ
+eventWidth = 4 + bodyWidth
 
 -- those four bytes, a time of four bytes for each event, then a body for each
 abbrev pub sized : List ℕ → Bool
-sized bs = leb 4 (length bs) && (eqb (two bs 2) bodyWidth && eqb (length bs) (4 + 32 * eventCount bs))
+sized bs = leb 4 (length bs) && (eqb (two bs 2) bodyWidth && eqb (length bs) (4 + eventWidth * eventCount bs))
 
 -- the same, as facts
 pub record Sizes (bs : List ℕ) : Type 0 where
   pub head : 4 ≤ length bs
   pub width : two bs 2 ≡ bodyWidth
-  pub whole : length bs ≡ 4 + 32 * eventCount bs
+  pub whole : length bs ≡ 4 + eventWidth * eventCount bs
 
 -- where the time of event i is, where its body is if there are n, and where the slot k of a body is
 abbrev pub timePlace : ℕ → ℕ
 timePlace i = 4 + 4 * i
 
 abbrev pub bodyPlace : (n i : ℕ) → ℕ
-bodyPlace n i = 4 + 4 * n + 28 * i
+bodyPlace n i = 4 + 4 * n + bodyWidth * i
 
 abbrev pub slotPlace : (body k : ℕ) → ℕ
-slotPlace body k = body + 4 + 6 * k
+slotPlace body k = body + 4 + slotWidth * k
 
 -- a slot: a code, a state, which is 1 once it is read, and a number
 abbrev pub slotAt : List ℕ → (place : ℕ) → Value

@@ -15,7 +15,7 @@ use Rattle.std.specs.declared.option.Option.the-variants.{Some, None}
 use Rattle.logs.specs.declared.event.Event.{Event}
 use Rattle.logs.specs.Events.{inBounds, eventAt, blank}
 use Rattle.logs.specs.Lawful.{Lawful, NeverFalls, allInBounds, timeAt, mostEvents}
-use Rattle.logs.specs.Image.{Sizes, two, sized, bodyWidth, eventCount, bodyPlace, bodyLaid, timeHeld, formerTime, heldAt, goodAt, lowestBad, wrongSizes, imageBroken, firstEvents, eventsIn, unlessBroken, imageEvents}
+use Rattle.logs.specs.Image.{Sizes, two, sized, bodyWidth, eventWidth, eventCount, bodyPlace, bodyLaid, timeHeld, formerTime, heldAt, goodAt, lowestBad, wrongSizes, imageBroken, firstEvents, eventsIn, unlessBroken, imageEvents}
 
 absent : (i : ℕ) → _≡_ {A = Option ℕ} (Some i) None → ⊥
 absent i e = let z : _≡_ {A = ℕ} 0 1 = cc in omega arith
@@ -54,9 +54,9 @@ module _ (bs : List ℕ) where
 
   pub sizes-from : sized bs ≡ true → Sizes bs
   sizes-from h =
-      let a = and-parts (leb 4 (length bs)) (eqb (two bs 2) bodyWidth && eqb (length bs) (4 + 32 * eventCount bs)) h in
-      let b = and-parts (eqb (two bs 2) bodyWidth) (eqb (length bs) (4 + 32 * eventCount bs)) (a .1) in
-      record { head = leb-true 4 (length bs) (a .0); width = eqb-true (two bs 2) bodyWidth (b .0); whole = eqb-true (length bs) (4 + 32 * eventCount bs) (b .1) }
+      let a = and-parts (leb 4 (length bs)) (eqb (two bs 2) bodyWidth && eqb (length bs) (4 + eventWidth * eventCount bs)) h in
+      let b = and-parts (eqb (two bs 2) bodyWidth) (eqb (length bs) (4 + eventWidth * eventCount bs)) (a .1) in
+      record { head = leb-true 4 (length bs) (a .0); width = eqb-true (two bs 2) bodyWidth (b .0); whole = eqb-true (length bs) (4 + eventWidth * eventCount bs) (b .1) }
 
   pub unbroken-sizes : imageBroken bs ≡ None → Sizes bs
   unbroken-sizes e = sizes-from (by-size (sized bs) e .0)

@@ -3,6 +3,9 @@
 // The number of slots for values in an event.
 pub const SLOTS: usize = 4;
 
+// The highest time of an event, in milliseconds.
+pub const LATEST: u32 = 2_147_483_647;
+
 // A value of an event: its code, and its number once it is read.
 #[derive(Clone, Copy)]
 pub enum Value {

@@ -14,7 +14,7 @@ pub trait ReadingLog {
 
     ghost bound: { Self → ℕ };
 
-    // Of every log: times never fall, it is no longer than its limit, and each event is within its bounds.
+    // Of every log: times never fall, it is no longer than its limit, this is at most 65,535, and each event is within its bounds.
     ghost laws: { (log : Self) → Lawful (events log) (bound log) };
 
     fn len(&self) -> u16

@@ -2,7 +2,8 @@
 use logs::event::Event;
 use logs::event::Value;
 
-// Why a term has no value.
+// Why a term has no value: the event has no value of the code, or several, or an unread one;
+// a step leaves the range of signed 32-bit numbers; a divisor is zero.
 #[derive(Clone, Copy)]
 pub enum Cause {
     Missing,
@@ -12,7 +13,8 @@ pub enum Cause {
     ZeroDivisor,
 }
 
-// The row of a term that lacks its value by itself, the place where its test was asked, and why.
+// The row, counted from 0 in the sheet, of a term that lacks its value by itself,
+// the place where its test was asked, and why.
 #[derive(Clone, Copy)]
 pub struct Origin {
     pub row: usize,

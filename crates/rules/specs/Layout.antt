@@ -32,7 +32,7 @@ ruleCount bs = pair bs 0
 abbrev pub rowCount : List ℕ → ℕ
 rowCount bs = pair bs 2
 
--- four bytes, then heads of four bytes, then as many numbers of four bytes
+-- 1 to 16 rules, no fewer rows than rules and at most 64; four bytes, then heads of four bytes, then as many numbers of four bytes
 abbrev pub sized : List ℕ → Bool
 sized bs =
     leb 4 (length bs) && (leb 1 (ruleCount bs) && (leb (ruleCount bs) mostRules && (leb (ruleCount bs) (rowCount bs)

@@ -2,6 +2,7 @@
 ghost use mathlib.Core.Path.{_≡_};
 ghost use Rattle.logs.specs.Events.{codeOf, slotIn, slotsIn, inBounds, blank};
 use crate::event::Event;
+use crate::event::LATEST;
 use crate::event::SLOTS;
 use crate::event::Value;
 
@@ -32,9 +33,9 @@ impl Event {
     pub fn in_bounds(&self) -> bool
         ensures { λ r. ⌜ r ≡ inBounds (now (self .entry)) ⌝ }
     {
-        self.time <= 2147483647
+        self.time <= LATEST
             && 0 < self.name
-            && self.count <= 4
+            && self.count as usize <= SLOTS
             && slots_in(self.count, &self.slots)
     }
 }

@@ -3,9 +3,18 @@ ghost use mathlib.Core.Path.{_≡_};
 ghost use mathlib.Core.Bool.{true};
 ghost use Prim.Native.Nat.{_+_, _*_, _<_, _≤_};
 ghost use lib.ListN.{length};
-ghost use Rattle.logs.specs.Image.{Sizes, two, four, signed, sized, bodyPlace, slotPlace, slotAt, slotLaid, bodyLaid, heldAt, goodEvent, lowestBad, imageBroken, imageEvents};
+ghost use Rattle.logs.specs.Events.{slotCount};
+ghost use Rattle.logs.specs.Image.{bodyWidth, eventWidth, Sizes, two, four, signed, sized, bodyPlace, slotPlace, slotAt, slotLaid, bodyLaid, heldAt, goodEvent, lowestBad, imageBroken, imageEvents};
 use crate::event::Event;
+use crate::event::SLOTS;
 use crate::event::Value;
+
+// The bytes of a slot, of a body, and of a time and a body.
+const SLOT_WIDTH: usize = 6;
+
+const BODY_WIDTH: usize = 4 + SLOT_WIDTH * SLOTS;
+
+const EVENT_WIDTH: usize = 4 + BODY_WIDTH;
 
 fn two_at(bytes: &[u8], i: usize) -> u16
     requires { ⌜ i + 1 < length (now bytes) ⌝ }
@@ -29,10 +38,10 @@ fn signed_at(bytes: &[u8], i: usize) -> i32
 }
 
 fn slot_at(bytes: &[u8], body: usize, k: usize) -> Value
-    requires { ⌜ k < 4 ⌝ ∗ ⌜ body + 28 ≤ length (now bytes) ⌝ }
+    requires { ⌜ k < slotCount ⌝ ∗ ⌜ body + bodyWidth ≤ length (now bytes) ⌝ }
     ensures { λ r. ⌜ r ≡ slotAt (now (bytes .entry)) (slotPlace body k) ⌝ }
 {
-    let place = body + 4 + 6 * k;
+    let place = body + 4 + SLOT_WIDTH * k;
     let code = bytes[place];
     if bytes[place + 1] == 1 {
         Value::Read {
@@ -45,16 +54,16 @@ fn slot_at(bytes: &[u8], body: usize, k: usize) -> Value
 }
 
 fn slot_laid(bytes: &[u8], body: usize, k: usize) -> bool
-    requires { ⌜ k < 4 ⌝ ∗ ⌜ body + 28 ≤ length (now bytes) ⌝ }
+    requires { ⌜ k < slotCount ⌝ ∗ ⌜ body + bodyWidth ≤ length (now bytes) ⌝ }
     ensures { λ r. ⌜ r ≡ slotLaid (now (bytes .entry)) (slotPlace body k) ⌝ }
 {
-    let place = body + 4 + 6 * k;
+    let place = body + 4 + SLOT_WIDTH * k;
     let state = bytes[place + 1];
     state == 1 || (state == 0 && four_at(bytes, place + 2) == 0)
 }
 
 fn body_laid(bytes: &[u8], body: usize) -> bool
-    requires { ⌜ body + 28 ≤ length (now bytes) ⌝ }
+    requires { ⌜ body + bodyWidth ≤ length (now bytes) ⌝ }
     ensures { λ r. ⌜ r ≡ bodyLaid (now (bytes .entry)) body ⌝ }
 {
     two_at(bytes, body + 2) == 0
@@ -67,12 +76,12 @@ fn body_laid(bytes: &[u8], body: usize) -> bool
 fn body_place(count: u16, i: u16) -> usize
     ensures { λ r. ⌜ r ≡ bodyPlace count i ⌝ }
 {
-    4 + 4 * count as usize + 28 * i as usize
+    4 + 4 * count as usize + BODY_WIDTH * i as usize
 }
 
 // The event that the bytes hold at a place.
 pub(crate) fn event_at(bytes: &[u8], count: u16, i: u16) -> Event
-    requires { ⌜ i < count ⌝ ∗ ⌜ length (now bytes) ≡ 4 + 32 * count ⌝ }
+    requires { ⌜ i < count ⌝ ∗ ⌜ length (now bytes) ≡ 4 + eventWidth * count ⌝ }
     ensures { λ r. ⌜ r ≡ heldAt (now (bytes .entry)) count i ⌝ }
 {
     let body = body_place(count, i);
@@ -91,14 +100,14 @@ pub(crate) fn event_at(bytes: &[u8], count: u16, i: u16) -> Event
 
 // Whether an event with this body is well laid, within its bounds, and not before the former time.
 fn is_good(bytes: &[u8], body: usize, event: &Event, former: u32) -> bool
-    requires { ⌜ body + 28 ≤ length (now bytes) ⌝ }
+    requires { ⌜ body + bodyWidth ≤ length (now bytes) ⌝ }
     ensures { λ r. ⌜ r ≡ goodEvent (now (bytes .entry)) body former (now (event .entry)) ⌝ }
 {
     body_laid(bytes, body) && event.in_bounds() && former <= event.time
 }
 
 fn lowest_bad(bytes: &[u8], count: u16) -> Option<u16>
-    requires { ⌜ length (now bytes) ≡ 4 + 32 * count ⌝ }
+    requires { ⌜ length (now bytes) ≡ 4 + eventWidth * count ⌝ }
     ensures { λ r. ⌜ r ≡ lowestBad (now (bytes .entry)) count 0 count ⌝ }
 {
     let mut former = 0;
@@ -117,7 +126,9 @@ fn well_sized(bytes: &[u8]) -> bool
     ensures same { λ r. ⌜ r ≡ sized (now (bytes .entry)) ⌝ }
     ensures sizes { λ r. ⌜ (r ≡ true → Sizes (now (bytes .entry))) ⌝ }
 {
-    bytes.len() >= 4 && two_at(bytes, 2) == 28 && bytes.len() == 4 + 32 * two_at(bytes, 0) as usize
+    bytes.len() >= 4
+        && two_at(bytes, 2) as usize == BODY_WIDTH
+        && bytes.len() == 4 + EVENT_WIDTH * two_at(bytes, 0) as usize
 }
 
 // The lowest bad event, or 65535 if the sizes are wrong.
