@@ -1,3 +1,5 @@
+#![tactic(auto)]
+
 pub mod input;
 pub mod judged;
 pub mod line;

@@ -1,4 +1,6 @@
 // Judges every rule of a sheet over the image of a log: standard input holds the one, then the other.
+#![tactic(auto)]
+
 use judging::working::JudgingRow;
 use meaning::verdict::Verdict;
 use reports::input::MOST_BYTES;
