@@ -15,7 +15,7 @@ loop-i-preserved c =
     let n = c.args.count in
     let i = c.loop-i.i in
     let vs = c.args.slots.now in
-    sym (at_drop_more (slots_in n i) vs i _ c.loop-i-test.true ∙ ap (λ b. b && slots_in n (i + 1) (drop (i + 1) vs)) (sym c.slot-in.ensures ∙ c.if-not-slot-in.false)) ∙ c.loop-i.invariant
+    sym (at_drop_more (slots_in n i) vs i _ c.loop-i-test.true ∙ ap (λ b. b && slots_in n (i + 1) (drop (i + 1) vs)) (sym c.slot_in.ensures ∙ c.if-not-slot_in.false)) ∙ c.loop-i.invariant
 
 pub returns : goal.returns
 returns c = sym (at_drop_all (slots_in c.args.count c.loop-i.i) c.args.slots.now c.loop-i.i c.loop-i-test.false) ∙ c.loop-i.invariant

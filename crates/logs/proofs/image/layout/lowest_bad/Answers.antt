@@ -16,8 +16,8 @@ loop-i-preserved c =
     let bs = c.args.bytes.now in
     let n = c.args.count in
     let i = c.loop-i.i in
-    let good = good_is bs n i c.event-at-event.ensures c.body-place.ensures c.loop-i.invariant.0 c.is-good.ensures c.if-not-is-good.false in (
-      ap (λ e. e.time) c.event-at-event.ensures ∙ sym (former_next bs i),
+    let good = good_is bs n i c.event_at-event.ensures c.body_place.ensures c.loop-i.invariant.0 c.is_good.ensures c.if-not-is-good.false in (
+      ap (λ e. e.time) c.event_at-event.ensures ∙ sym (former_next bs i),
       sym (lowest_later bs n i c.loop-i-test.true good) ∙ c.loop-i.invariant.1,
     )
 

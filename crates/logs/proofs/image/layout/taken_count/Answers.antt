@@ -7,4 +7,4 @@ pub two-at-requires : goal.two-at-requires
 two-at-requires c = omega (arith, (unbroken_sizes c.args.bytes.now (sym c.requires ∙ c.in-None.is)).head)
 
 pub returns-in-None : goal.returns-in-None
-returns-in-None c = c.two-at.ensures ∙ sym (count_taken c.args.bytes.now (sym c.requires ∙ c.in-None.is))
+returns-in-None c = c.two_at.ensures ∙ sym (count_taken c.args.bytes.now (sym c.requires ∙ c.in-None.is))

@@ -9,7 +9,7 @@ event-at-requires c = (c.if-place-self.true, whole_at c.args.self.now.bytes.now 
 
 pub returns-then-place-self : goal.returns-then-place-self
 returns-then-place-self c =
-    ap Some c.event-at.ensures ∙ sym (event_there c.args.self.now.bytes.now _ c.args.place c.args.self.now.counted c.if-place-self.true)
+    ap Some c.event_at.ensures ∙ sym (event_there c.args.self.now.bytes.now _ c.args.place c.args.self.now.counted c.if-place-self.true)
 
 pub returns : goal.returns
 returns c = sym (slice_get_past (image_events c.args.self.now.bytes.now) c.args.place (omega arith))
