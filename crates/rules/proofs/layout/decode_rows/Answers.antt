@@ -14,7 +14,7 @@ all_written xs later ys none e = sym (append-nil xs) ∙ (ap (λ rs. xs ++ rs) (
 
 pub returns-in-None : goal.returns-in-None
 returns-in-None c =
-    let same = all_written _ _ _ (rows_stop c.args.bytes.now c.args.count c.loop-i.i c.args.count c.loop-i-test.true (c.in-None.ensures ∙ ap decoded c.raw-row.ensures)) c.loop-i.invariant.1 in
+    let same = all_written _ _ _ (rows_stop c.args.bytes.now c.args.count c.loop-i.i c.args.count c.loop-i-test.true (c.in-None.ensures ∙ ap decoded c.raw_row.ensures)) c.loop-i.invariant.1 in
     record { few = c.loop-i.invariant.0; rows = same; bounded = ap all_allowed same ∙ rows_allowed c.args.bytes.now c.args.count 0 c.args.count }
 
 pub returns : goal.returns
@@ -24,7 +24,7 @@ returns c =
 
 pub loop-i-preserved : goal.loop-i-preserved
 loop-i-preserved c =
-    let more = rows_more c.args.bytes.now c.args.count c.loop-i.i c.args.count c.loop-i-test.true c.in-Some.row (c.in-Some.ensures ∙ ap decoded c.raw-row.ensures) in
+    let more = rows_more c.args.bytes.now c.args.count c.loop-i.i c.args.count c.loop-i-test.true c.in-Some.row (c.in-Some.ensures ∙ ap decoded c.raw_row.ensures) in
     let within : c.loop-i.i < length c.loop-i.rows = omega arith in
     let put = take_more_set c.loop-i.rows c.loop-i.i c.in-Some.row within in
     let later = rows_from c.args.bytes.now c.args.count (c.loop-i.i + 1) (c.args.count - (c.loop-i.i + 1)) in (

@@ -13,7 +13,7 @@ counted false n i later whole h e = (omega arith, omega arith)
 pub loop-row-preserved : goal.loop-row-preserved
 loop-row-preserved c =
     let more = at_drop_more property_rows c.args.rows.now c.loop-row.row-index Not c.loop-row-test.true in
-    rw c.is-property.ensures (counted _ _ _ _ _ c.loop-row.invariant.0 (ap (λ n. c.loop-row.count + n) (sym more) ∙ c.loop-row.invariant.1))
+    rw c.is_property.ensures (counted _ _ _ _ _ c.loop-row.invariant.0 (ap (λ n. c.loop-row.count + n) (sym more) ∙ c.loop-row.invariant.1))
 
 pub returns : goal.returns
 returns c = let all = at_drop_all property_rows c.args.rows.now c.loop-row.row-index c.loop-row-test.false in omega arith

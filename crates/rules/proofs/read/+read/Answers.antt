@@ -17,15 +17,15 @@ returns-in-Nothing t c = is_leaf _ _ _ Not c.if-at-rows.false c.in-Nothing.ensur
 pub returns-in-One : goal.returns-in-One
 returns-in-One t c = has_one _ _ _ Not c.if-at-rows.false _ _ c.in-One.ensures c.read.ensures
 
-pub returns-in-err-mid : goal.returns-in-err-mid
-returns-in-err-mid t c =
-    let p = err_from_is_err_and c.from-residual.result c.from-residual.ensures.1 in
-    rw (p.1, p.2) (first_bad_lem c.args.rows.now c.args.at (asked c.args.want) Not c.if-at-rows.false (asked c.in-Two.first) (asked c.in-Two.second) c.in-err-mid.field-0.0 c.in-Two.ensures c.in-err-mid.ensures)
+pub returns-in_err-mid-in-Two : goal.returns-in_err-mid-in-Two
+returns-in_err-mid-in-Two t c =
+    let p = err_from_is_err_and c.from_residual.result c.from_residual.ensures.1 in
+    rw (p.1, p.2) (first_bad_lem c.args.rows.now c.args.at (asked c.args.want) Not c.if-at-rows.false (asked c.in-Two.first) (asked c.in-Two.second) c.in_err-mid-in-Two.field-0.0 c.in-Two.ensures c.in_err-mid-in-Two.ensures)
 
-pub returns-in-ok-mid : goal.returns-in-ok-mid
-returns-in-ok-mid t c = has_two _ _ _ Not c.if-at-rows.false _ _ _ _ c.in-Two.ensures c.in-ok-mid.ensures c.read-in-Two-2.ensures
+pub returns-in_ok-mid-in-Two : goal.returns-in_ok-mid-in-Two
+returns-in_ok-mid-in-Two t c = has_two _ _ _ Not c.if-at-rows.false _ _ _ _ c.in-Two.ensures c.in_ok-mid-in-Two.ensures c.read-in-Two-2.ensures
 
 pub read-requires-in-Two-2 : goal.read-requires-in-Two-2
 read-requires-in-Two-2 t c =
-    let mid = c.in-ok-mid.ensures.onward _ refl in
+    let mid = c.in_ok-mid-in-Two.ensures.onward _ refl in
     (let f = mid.forward in omega arith, mid.within)

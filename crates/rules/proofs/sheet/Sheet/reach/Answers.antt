@@ -20,4 +20,4 @@ pub returns-then-rule-self : goal.returns-then-rule-self
 returns-then-rule-self c =
     let sheet = c.args.self.now in
     let within = c.if-rule-self.true in
-    rw (lt-ltb _ _ within) (ap Ok (c.property-rows.ensures ∙ between sheet c.args.rule within _ _ _ c.rows.ensures (sheet.begun c.args.rule within) c.behind.ensures.next))
+    rw (lt-ltb _ _ within) (ap Ok (c.property_rows.ensures ∙ between sheet c.args.rule within _ _ _ c.rows.ensures (sheet.begun c.args.rule within) c.behind.ensures.next))
