@@ -4,11 +4,11 @@ use Rattle.std.proofs.lemmas.Bool.{and_left}
 use Rattle.logs.specs.Events.{slots_in}
 use Rattle.logs.proofs.event.methods.slots_in.Goals as goal
 
-pub returns-then-not-slot-in : goal.returns-then-not-slot-in
-returns-then-not-slot-in c =
+pub returns-then-not-slot_in : goal.returns-then-not-slot_in
+returns-then-not-slot_in c =
     let n = c.args.count in
     let i = c.loop-i.i in
-    sym (at_drop_more (slots_in n i) c.args.slots.now i _ c.loop-i-test.true ∙ and_left _ _ (sym c.slot-in.ensures ∙ c.if-not-slot-in.true)) ∙ c.loop-i.invariant
+    sym (at_drop_more (slots_in n i) c.args.slots.now i _ c.loop-i-test.true ∙ and_left _ _ (sym c.slot_in.ensures ∙ c.if-not-slot_in.true)) ∙ c.loop-i.invariant
 
 pub loop-i-preserved : goal.loop-i-preserved
 loop-i-preserved c =

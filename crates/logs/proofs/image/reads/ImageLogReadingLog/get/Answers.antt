@@ -4,8 +4,8 @@ use Rattle.logs.specs.Image.{image_events}
 use Rattle.logs.proofs.Taken.{whole_at, event_there}
 use Rattle.logs.proofs.image.reads.ImageLogReadingLog.get.Goals as goal
 
-pub event-at-requires : goal.event-at-requires
-event-at-requires c = (c.if-place-self.true, whole_at c.args.self.now.bytes.now _ c.args.place c.args.self.now.counted c.if-place-self.true)
+pub event_at-requires : goal.event_at-requires
+event_at-requires c = (c.if-place-self.true, whole_at c.args.self.now.bytes.now _ c.args.place c.args.self.now.counted c.if-place-self.true)
 
 pub returns-then-place-self : goal.returns-then-place-self
 returns-then-place-self c =
