@@ -1,6 +1,6 @@
 // The test of a row at a place.
 ghost use Rattle.std.specs.Prelude.{◌≡◌, ◌<◌, length, if◌then◌else◌, nat_eq};
-ghost use Rattle.meaning.specs.declared.verdict.Variable.TheVariants.{Event as asEvent};
+ghost use Rattle.meaning.specs.declared.verdict.Variable.TheVariants.{Event as as_event};
 ghost use Rattle.meaning.specs.Terms.{◌⊕◌};
 ghost use Rattle.rules.specs.Trees.{Begins, test_rows};
 ghost use Rattle.rules.specs.Forest.{test_at};
@@ -25,7 +25,7 @@ pub(crate) fn ask(
     requires spelt { Begins rows.now at (test_rows (test_at rows.now at)) }
     requires space { length (bindings known.old) < 8 }
     ensures answer { result ≡ answer_for event (bindings known.old) at name (test_at rows.now at) place }
-    ensures known { bindings known.new ≡ (if nat_eq event.name name then (bindings known.old ⊕ asEvent event) else bindings known.old) }
+    ensures known { bindings known.new ≡ (if nat_eq event.name name then (bindings known.old ⊕ as_event event) else bindings known.old) }
 {
     if event.name == name {
         known.bind(Variable::Event(event));

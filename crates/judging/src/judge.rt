@@ -1,6 +1,6 @@
 // A rule of a sheet judged over a log.
 ghost use Rattle.std.specs.Prelude.{◌≡◌, length};
-ghost use Rattle.rules.specs.Sheets.{held as sheetHeld};
+ghost use Rattle.rules.specs.Sheets.{held as sheet_held};
 ghost use Rattle.meaning.specs.Wording.{Wording};
 ghost use Rattle.meaning.specs.Durations.{Contiguous};
 ghost use Rattle.judging.specs.Judging.{judge_answer, judge_refusal_number};
@@ -36,7 +36,7 @@ pub fn judge<L: ReadingLog>(
     rule: usize,
     work: &mut [JudgingRow],
 ) -> Result<Verdict, JudgeRefusal>
-    ensures answer { result ≡ judge_answer (events log.now) (sheetHeld sheet.now) rule (length work.old) }
+    ensures answer { result ≡ judge_answer (L.events log.now) (sheet_held sheet.now) rule (length work.old) }
     ensures wording { Wording }
     ensures contiguous { Contiguous }
 {

@@ -104,9 +104,9 @@ fn try_next<L: ReadingLog>(
     known: &mut Known,
     stack: &mut Stack<JudgingRow>,
 ) -> Turn
-    requires ready { PlacesReady (events log.now) rows.now (room stack.old) (length (bindings known.old)) (length (held stack.old)) row.scoping row.window row.left }
-    requires waits { Waits (events log.now) rows.now (room stack.old) (bindings known.old) (held stack.old) }
-    ensures onward { OnwardTried (events log.now) rows.now (room stack.old) row (bindings known.old) (held stack.old) (bindings known.new) result (held stack.new) }
+    requires ready { PlacesReady (L.events log.now) rows.now (room stack.old) (length (bindings known.old)) (length (held stack.old)) row.scoping row.window row.left }
+    requires waits { Waits (L.events log.now) rows.now (room stack.old) (bindings known.old) (held stack.old) }
+    ensures onward { OnwardTried (L.events log.now) rows.now (room stack.old) row (bindings known.old) (held stack.old) (bindings known.new) result (held stack.new) }
     ensures space { room stack.new ≡ room stack.old }
 {
     let PlacesRow {
@@ -225,8 +225,8 @@ fn tell_place<L: ReadingLog>(
     known: &mut Known,
     stack: &mut Stack<JudgingRow>,
 ) -> Turn
-    requires waits { Waits (events log.now) rows.now (room stack.old) (bindings known.old) (JudgingRow.Places row ∷ held stack.old) }
-    ensures onward { OnwardTold (events log.now) rows.now (room stack.old) (bindings known.old) v (JudgingRow.Places row ∷ held stack.old) (bindings known.new) result (held stack.new) }
+    requires waits { Waits (L.events log.now) rows.now (room stack.old) (bindings known.old) (JudgingRow.Places row ∷ held stack.old) }
+    ensures onward { OnwardTold (L.events log.now) rows.now (room stack.old) (bindings known.old) v (JudgingRow.Places row ∷ held stack.old) (bindings known.new) result (held stack.new) }
     ensures space { room stack.new ≡ room stack.old }
 {
     known.truncate(row.depth);
@@ -245,8 +245,8 @@ fn ascend<L: ReadingLog>(
     known: &mut Known,
     stack: &mut Stack<JudgingRow>,
 ) -> Turn
-    requires waits { Waits (events log.now) rows.now (room stack.old) (bindings known.old) (waiting ∷ held stack.old) }
-    ensures onward { OnwardTold (events log.now) rows.now (room stack.old) (bindings known.old) v (waiting ∷ held stack.old) (bindings known.new) result (held stack.new) }
+    requires waits { Waits (L.events log.now) rows.now (room stack.old) (bindings known.old) (waiting ∷ held stack.old) }
+    ensures onward { OnwardTold (L.events log.now) rows.now (room stack.old) (bindings known.old) v (waiting ∷ held stack.old) (bindings known.new) result (held stack.new) }
     ensures space { room stack.new ≡ room stack.old }
 {
     match waiting {
@@ -273,8 +273,8 @@ fn descend<L: ReadingLog>(
     requires few { length rows.now ≤ most_rows }
     requires ends { Ends rows.now ends.now }
     requires within { at < length rows.now }
-    requires valid { Asking (events log.now) rows.now (room stack.old) (bindings known.old) at window (held stack.old) }
-    ensures onward { OnwardAsked (events log.now) rows.now (room stack.old) (bindings known.old) at window (held stack.old) (bindings known.new) result (held stack.new) }
+    requires valid { Asking (L.events log.now) rows.now (room stack.old) (bindings known.old) at window (held stack.old) }
+    ensures onward { OnwardAsked (L.events log.now) rows.now (room stack.old) (bindings known.old) at window (held stack.old) (bindings known.new) result (held stack.new) }
     ensures space { room stack.new ≡ room stack.old }
 {
     let row = rows[at];
@@ -342,7 +342,7 @@ pub(crate) fn run<L: ReadingLog>(
 ) -> Verdict
     requires few { length rows.now ≤ most_rows }
     requires stands { Standing rows.now 0 at 0 (length work.old) }
-    ensures { result ≡ judged_at (events log.now) rows.now [] (0, length (events log.now)) at }
+    ensures { result ≡ judged_at (L.events log.now) rows.now [] (0, length (L.events log.now)) at }
 {
     let ends = ends_of(rows);
     let mut known = Known::nothing();

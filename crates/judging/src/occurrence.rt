@@ -71,7 +71,7 @@ pub(crate) fn occurs<L: ReadingLog>(
 ) -> Verdict
     requires spelt { Begins rows.now at (test_rows (test_at rows.now at)) }
     requires space { length (bindings known.old) < 8 }
-    ensures answer { result ≡ at_least3 count (within window) (asked (events log.now) (bindings known.old) at name (test_at rows.now at)) }
+    ensures answer { result ≡ at_least3 count (within window) (asked (L.events log.now) (bindings known.old) at name (test_at rows.now at)) }
     ensures known { bindings known.new ≡ bindings known.old }
 {
     let depth = known.depth();

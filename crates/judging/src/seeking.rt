@@ -49,7 +49,7 @@ pub(crate) fn seek<L: ReadingLog>(
 ) -> Option<Found>
     requires spelt { Begins rows.now scoping.test (test_rows (test_at rows.now scoping.test)) }
     requires space { length (bindings known.old) < 8 }
-    ensures { Sought (events log.now) rows.now scoping so_far places (bindings known.old) (bindings known.new) result }
+    ensures { Sought (L.events log.now) rows.now scoping so_far places (bindings known.old) (bindings known.new) result }
 {
     let depth = known.depth();
     let mut left = places;

@@ -3,7 +3,7 @@ ghost use Rattle.std.specs.Prelude.{◌≡◌, ◌+◌, ◌<◌, ◌≤◌, ltb,
 ghost use Rattle.logs.specs.Events.{event_at};
 ghost use Rattle.logs.specs.Lawful.{time_at};
 ghost use Rattle.meaning.specs.Three.{count};
-ghost use Rattle.meaning.specs.Windows.{places, window as windowAt};
+ghost use Rattle.meaning.specs.Windows.{places, window as window_at};
 
 use logs::event::Event;
 use logs::log::ReadingLog;
@@ -11,7 +11,7 @@ use rules::row::Side;
 
 // The event at a place, or the blank one.
 pub(crate) fn event_at<L: ReadingLog>(log: &L, place: u16) -> Event
-    ensures { result ≡ event_at (events log.now) place }
+    ensures { result ≡ event_at (L.events log.now) place }
 {
     log.get(place).unwrap_or(Event::blank())
 }
@@ -25,8 +25,8 @@ fn is_below(time: u32, limit: u64) -> bool
 
 // The first place of the window with a time of at least `limit`, found by halving, or the window's end.
 fn first_from<L: ReadingLog>(log: &L, limit: u64, window: (u16, u16)) -> u16
-    requires { window.1 ≤ length (events log.now) }
-    ensures { result ≡ window.0 + count (λ j. ltb (time_at (events log.now) j) limit) (places window.0 window.1) }
+    requires { window.1 ≤ length (L.events log.now) }
+    ensures { result ≡ window.0 + count (λ j. ltb (time_at (L.events log.now) j) limit) (places window.0 window.1) }
 {
     let (mut low, mut high) = window;
     while low < high {
@@ -50,9 +50,9 @@ pub(crate) fn cut<L: ReadingLog>(
     window: (u16, u16),
 ) -> (u16, u16)
     requires place { place < window.1 }
-    requires within { window.1 ≤ length (events log.now) }
-    requires time { time ≡ time_at (events log.now) place }
-    ensures { result ≡ windowAt side (time_at (events log.now)) duration place window }
+    requires within { window.1 ≤ length (L.events log.now) }
+    requires time { time ≡ time_at (L.events log.now) place }
+    ensures { result ≡ window_at side (time_at (L.events log.now)) duration place window }
 {
     let (from, to) = window;
     match side {

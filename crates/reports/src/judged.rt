@@ -1,6 +1,6 @@
 // Every rule of a sheet judged over a log.
 ghost use Rattle.std.specs.Prelude.{◌≡◌, ◌++◌, drop};
-ghost use Rattle.rules.specs.Sheets.{held as sheetHeld};
+ghost use Rattle.rules.specs.Sheets.{held as sheet_held};
 ghost use Rattle.reports.specs.Judged.{verdicts_of};
 
 use judging::judge::judge;
@@ -22,8 +22,8 @@ pub fn judge_all<L: ReadingLog>(
     work: &mut WorkingRows,
     verdicts: &mut Verdicts,
 ) -> usize
-    ensures count { result ≡ (sheetHeld sheet.now).0 }
-    ensures judged { verdicts.new ≡ verdicts_of (events log.now) (sheetHeld sheet.now) ++ drop result verdicts.old }
+    ensures count { result ≡ (sheet_held sheet.now).0 }
+    ensures judged { verdicts.new ≡ verdicts_of (events log.now) (sheet_held sheet.now) ++ drop result verdicts.old }
 {
     let rules = sheet.rules();
     for rule in 0..rules {

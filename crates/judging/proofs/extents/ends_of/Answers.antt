@@ -21,8 +21,8 @@ loop-i-preserved c =
     let within : i < length rs = omega arith in
     let room : i < length ends = omega arith in (
       simp length-set long,
-      ends_more rs ends i c.end-of.result room later
-          (λ s. subst (EndsAt rs i) (sym c.end-of.ensures) (end_next rs ends i _ later within s c.parts.result (sym c.parts.ensures))),
+      ends_more rs ends i c.end_of.result room later
+          (λ s. subst (EndsAt rs i) (sym c.end_of.ensures) (end_next rs ends i _ later within s c.parts.result (sym c.parts.ensures))),
     )
 
 pub returns : goal.returns

@@ -7,10 +7,10 @@ use Rattle.judging.specs.Machine.{judged_at, Standing}
 use Rattle.judging.proofs.Rules.{started, reached, unstarted, too_few, stands, enough}
 use Rattle.judging.proofs.judge.judge.Goals as goal
 
-pub returns-in-default : goal.returns-in-default
-returns-in-default g c =
+pub returns-in_default : goal.returns-in_default
+returns-in_default g c =
     let es = g.L.ReadingLog.events c.args.log.now in
-    record { answer = unstarted es c.args.sheet.now c.args.rule _ c.in-default.ensures; wording = wording; contiguous = contiguous }
+    record { answer = unstarted es c.args.sheet.now c.args.rule _ c.in_default.ensures; wording = wording; contiguous = contiguous }
 
 pub returns-then-work-reach : goal.returns-then-work-reach
 returns-then-work-reach g c =

@@ -51,8 +51,8 @@ occurs-requires-in-Absence g c =
       space = binds _ _ _ _ _ _ _ c.requires.valid _ b.1 (λ sorts h. (and_parts _ _ h).0);
     }
 
-pub try-next-requires : goal.try-next-requires
-try-next-requires g c =
+pub try_next-requires : goal.try_next-requires
+try_next-requires g c =
     let es = g.L.ReadingLog.events c.args.log.now in
     let all = c.args.rows.now in
     let at = c.args.at in
@@ -61,18 +61,18 @@ try-next-requires g c =
     let sc : Scoping = record { side = f.side; pick = f.pick; name = f.name; duration = f.duration; test = at + 1; body = get_or c.args.ends.now (at + 1) 0 } in
     let place = part_place all c.args.ends.now (at + 1) (test_rows b.first) c.requires.ends (test_part b.first) b.left (test_within all (at + 1) b.first b.left) in
     record {
-      ready = subst (λ x. PlacesReady es all (room c.args.stack.now) (length (bindings c.args.known.now)) (length (held c.args.stack.now)) x.scoping x.window x.left) (sym c.whole-scope.ensures)
+      ready = subst (λ x. PlacesReady es all (room c.args.stack.now) (length (bindings c.args.known.now)) (length (held c.args.stack.now)) x.scoping x.window x.left) (sym c.whole_scope.ensures)
           (scope_ready es all _ _ at c.args.window _ c.requires.valid sc b.first b.second b.is b.left (subst (λ i. Begins all i (rows b.second)) (sym place) b.right) refl place);
       waits = c.requires.valid.waits;
     }
 
-pub next-value-requires : goal.next-value-requires
-next-value-requires g c =
+pub next_value-requires : goal.next_value-requires
+next_value-requires g c =
     let b = property_by c.args.rows.now c.args.at Not _ c.in-Quantify.is _ c.requires.valid.stands.begins in
     record { free = binds _ _ _ _ _ _ _ c.requires.valid _ b.1 (λ sorts h. (and_parts _ _ (and_parts _ _ h).0).1) }
 
 pub unreachable-requires : goal.unreachable-requires
-unreachable-requires g c = no_property c.args.rows.now c.args.at Not _ c.requires.valid.stands.begins c.in-default.not-Not c.in-default.not-Connect c.in-default.not-Occurrence c.in-default.not-Absence c.in-default.not-Scope c.in-default.not-Quantify
+unreachable-requires g c = no_property c.args.rows.now c.args.at Not _ c.requires.valid.stands.begins c.in_default.not-Not c.in_default.not-Connect c.in_default.not-Occurrence c.in_default.not-Absence c.in_default.not-Scope c.in_default.not-Quantify
 
 pub returns-in-Not : goal.returns-in-Not
 returns-in-Not g c =
@@ -145,8 +145,8 @@ returns-in-Scope g c =
     let small = laws.small in
     record {
       onward = from_scope es all _ _ at c.args.window _ c.requires.valid sc b.first b.second b.is b.left (subst (λ i. Begins all i (rows b.second)) (sym place) b.right) refl place (omega arith)
-          (subst (λ x. OnwardTried es all (room c.args.stack.now) x (bindings c.args.known.now) (held c.args.stack.now) (bindings c.try-next.new.known) c.try-next.result (held c.try-next.new.stack)) c.whole-scope.ensures c.try-next.ensures.onward);
-      space = c.try-next.ensures.space;
+          (subst (λ x. OnwardTried es all (room c.args.stack.now) x (bindings c.args.known.now) (held c.args.stack.now) (bindings c.try_next.new.known) c.try_next.result (held c.try_next.new.stack)) c.whole_scope.ensures c.try_next.ensures.onward);
+      space = c.try_next.ensures.space;
     }
 
 pub returns-in-Quantify : goal.returns-in-Quantify
@@ -158,7 +158,7 @@ returns-in-Quantify g c =
     let b = property_by all at Not _ f.is _ c.requires.valid.stands.begins in
     let q : Quantifying = record { quantifier = f.quantifier; variable = f.variable; code = f.code; body = at + 1 } in
     let ready = quantify_ready es all _ _ at c.args.window _ c.requires.valid q b.0 b.1 b.2 refl in
-    let same = c.whole-event.ensures in
+    let same = c.whole_event.ensures in
     let here = subst (λ x. ValuesReady es all (room c.args.stack.now) (length (bindings c.args.known.now)) (length (held c.args.stack.now)) x.quantifying x.window) (sym same) ready in
     record {
       onward = from_quantify es all _ _ at c.args.window _ c.requires.valid q b.0 b.1 b.2 refl _ refl

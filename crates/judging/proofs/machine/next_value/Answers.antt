@@ -12,7 +12,7 @@ use Rattle.judging.proofs.machine.next_value.Goals as goal
 pub returns-in-None : goal.returns-in-None
 returns-in-None c =
     let q = c.args.row.quantifying in
-    let same = c.known-event-event.ensures ∙ ap (λ θ. event_in (bound θ q.variable)) c.list.ensures in
+    let same = c.known_event-event.ensures ∙ ap (λ θ. event_in (bound θ q.variable)) c.list.ensures in
     let none = subst (λ e. coded_from q.code e c.args.row.next ≡ []) same c.in-None.ensures in
     record { onward = λ es rs r w. no_value es rs _ _ _ q c.args.row.window c.args.row.next c.args.row.verdict r w none; space = refl }
 
@@ -20,8 +20,8 @@ pub returns-in-Some : goal.returns-in-Some
 returns-in-Some c =
     let q = c.args.row.quantifying in
     let s = held c.args.stack.now in
-    let same = c.known-event-event.ensures ∙ ap (λ θ. event_in (bound θ q.variable)) c.list.ensures in
-    let some = subst (λ e. NextCoded e q.code c.args.row.next c.next-coded.result) same c.next-coded.ensures in
+    let same = c.known_event-event.ensures ∙ ap (λ θ. event_in (bound θ q.variable)) c.list.ensures in
+    let some = subst (λ e. NextCoded e q.code c.args.row.next c.next_coded.result) same c.next_coded.ensures in
     let found = subst (NextCoded (event_in (bound (bindings c.args.known.now) q.variable)) q.code c.args.row.next) c.in-Some.is some in
     let row = c.args.row in
     record {

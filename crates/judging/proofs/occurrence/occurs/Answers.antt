@@ -22,23 +22,23 @@ loop-place-preserved g c =
     let n = c.args.count in
     let i = c.loop-place.place in
     let to = c.args.window.1 in
-    let answer = asked_is es η c.args.at c.args.name test i c.event-at.ensures c.loop-place.invariant.0 c.ask-answer.ensures.answer in
+    let answer = asked_is es η c.args.at c.args.name test i c.event_at.ensures c.loop-place.invariant.0 c.ask-answer.ensures.answer in
     let t = c.note-tally.ensures ∙ ap (λ v. noted v c.loop-place.tally) answer in
     let most = noted_most (f i) c.loop-place.tally (i - c.args.window.0) c.loop-place.invariant.2 in
     let most' = subst (λ u. u.yes + u.«open» ≤ i - c.args.window.0 + 1) (sym t) most in (
-      unbound η (Event c.event-at.result) _ c.depth-depth.ensures c.loop-place.invariant.0 c.ask-answer.ensures.known c.truncate.ensures,
+      unbound η (Event c.event_at.result) _ c.depth-depth.ensures c.loop-place.invariant.0 c.ask-answer.ensures.known c.truncate.ensures,
       ap (λ u. ending n u (places (i + 1) to) f) t ∙ sym (ending_next n f c.loop-place.tally i (places (i + 1) to))
           ∙ ap (λ l. ending n c.loop-place.tally l f) (sym (places_next i to c.loop-place-test.true)) ∙ c.loop-place.invariant.1,
       omega (arith, most'),
     )
 
-pub returns-then-is-unchanging : goal.returns-then-is-unchanging
-returns-then-is-unchanging g c =
+pub returns-then-is_unchanging : goal.returns-then-is_unchanging
+returns-then-is_unchanging g c =
     let f = asked (g.L.ReadingLog.events c.args.log.now) (bindings c.args.known.now) c.args.at c.args.name (test_at c.args.rows.now c.args.at) in
     let n = c.args.count in
     record {
       answer = c.weigh.ensures
-          ∙ sym (ending_certain n f c.loop-place.tally _ _ (places_many c.loop-place.place c.args.window.1) (sym c.if-is-unchanging.ensures))
+          ∙ sym (ending_certain n f c.loop-place.tally _ _ (places_many c.loop-place.place c.args.window.1) (sym c.if-is_unchanging.ensures))
           ∙ c.loop-place.invariant.1 ∙ ending_start n f _;
       known = c.loop-place.invariant.0;
     }

@@ -19,7 +19,7 @@ term-y-requires t c =
 
 pub unreachable-requires : goal.unreachable-requires
 unreachable-requires t c =
-    no_term c.args.rows.now c.args.at Not c.requires.spelt.0 c.requires.spelt.1 c.in-default.not-Constant c.in-default.not-Time c.in-default.not-Value c.in-default.not-Number c.in-default.not-Reckon
+    no_term c.args.rows.now c.args.at Not c.requires.spelt.0 c.requires.spelt.1 c.in_default.not-Constant c.in_default.not-Time c.in_default.not-Value c.in_default.not-Number c.in_default.not-Reckon
 
 pub returns-in-Constant : goal.returns-in-Constant
 returns-in-Constant t c = λ u b.

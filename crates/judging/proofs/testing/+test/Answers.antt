@@ -7,7 +7,7 @@ use Rattle.judging.proofs.testing.+test.Goals as goal
 
 pub unreachable-requires : goal.unreachable-requires
 unreachable-requires t c =
-    no_test c.args.rows.now c.args.at Not c.requires.spelt.0 c.requires.spelt.1 c.in-default.not-True c.in-default.not-NotTest c.in-default.not-Join c.in-default.not-Compare
+    no_test c.args.rows.now c.args.at Not c.requires.spelt.0 c.requires.spelt.1 c.in_default.not-True c.in_default.not-NotTest c.in_default.not-Join c.in_default.not-Compare
 
 pub returns-in-True : goal.returns-in-True
 returns-in-True t c = λ u b.

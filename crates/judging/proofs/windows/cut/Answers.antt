@@ -12,7 +12,7 @@ returns-else-duration-eq0 g c =
     let d = c.args.duration in
     let to = c.args.window.1 in
     let some = ne_eqb _ _ c.if-duration-eq0.false in
-    ap (λ k. (i + 1, k)) (c.first-from.ensures ∙ ap (λ s. i + 1 + count (λ j. ltb (t j) (s + d)) (places (i + 1) to)) c.requires.time
+    ap (λ k. (i + 1, k)) (c.first_from.ensures ∙ ap (λ s. i + 1 + count (λ j. ltb (t j) (s + d)) (places (i + 1) to)) c.requires.time
     ∙ ap (λ b. cond b to (i + 1 + count (λ j. near d (t i) (t j)) (places (i + 1) to))) (sym some))
     ∙ ap (λ s. window s t d i c.args.window) (sym c.in-After.is)
 
@@ -23,8 +23,8 @@ returns-else-duration-eq0-2 g c =
     let d = c.args.duration in
     let from = c.args.window.0 in
     let some = ne_eqb _ _ c.if-duration-eq0-2.false in
-    ap (λ k. (k, i)) (c.first-from-in-Before.ensures
-    ∙ ap (λ l. from + count (λ j. ltb (t j) l) (places from i)) c.saturating-sub-limit.ensures
+    ap (λ k. (k, i)) (c.first_from-in-Before.ensures
+    ∙ ap (λ l. from + count (λ j. ltb (t j) l) (places from i)) c.saturating_sub-limit.ensures
     ∙ ap (λ n. from + n) (far_count d c.args.time t from i)
     ∙ ap (λ s. from + count (λ j. not (near d (t j) s)) (places from i)) c.requires.time
     ∙ ap (λ b. cond b from (from + count (λ j. not (near d (t j) (t i))) (places from i))) (sym some))

@@ -11,6 +11,6 @@ returns c =
     let checked = c.check.ensures ∙ ap image_answer image in
     let events = ap image_events image in
     record {
-      answer = answered bs _ _ c.split.ensures.sheet c.split.ensures.image _ _ _ _ c.inspect-inspected.ensures.whole checked c.in-default.ensures _ events _ c.judge-all.ensures.count;
-      judged = written bs _ _ c.split.ensures.sheet c.split.ensures.image _ _ _ _ c.inspect-inspected.ensures.whole checked c.in-default.ensures _ events _ c.judge-all.ensures.count _ _ c.judge-all.ensures.judged;
+      answer = answered bs _ _ c.split.ensures.sheet c.split.ensures.image _ _ _ _ c.inspect-inspected.ensures.whole checked c.in_default.ensures _ events _ c.judge_all.ensures.count;
+      judged = written bs _ _ c.split.ensures.sheet c.split.ensures.image _ _ _ _ c.inspect-inspected.ensures.whole checked c.in_default.ensures _ events _ c.judge_all.ensures.count _ _ c.judge_all.ensures.judged;
     }
