@@ -20,13 +20,12 @@ use Rattle.rules.specs.Scoped.{scoped as well_scoped}
 use Rattle.rules.proofs.Forests.{reads_property, reads_test}
 use Rattle.rules.proofs.Fronts.{front_row}
 use Rattle.meaning.specs.declared.verdict.Origin.{Origin}
-use Rattle.meaning.specs.declared.verdict.Variable.{Variable}
 use Rattle.meaning.specs.declared.verdict.Variable.TheVariants as var
 use Rattle.meaning.specs.declared.verdict.Verdict.{Verdict}
 use Rattle.meaning.specs.declared.verdict.Verdict.TheVariants.{Holds}
 use Rattle.meaning.specs.Three.{not3, count}
 use Rattle.meaning.specs.Terms.{Variables, ◌⊕◌, asked, bound, event_in}
-use Rattle.meaning.specs.Windows.{Window, window, places, near, within}
+use Rattle.meaning.specs.Windows.{Window, window, places, near}
 use Rattle.meaning.specs.Verdicts.{connected, quantified, scoped, judged}
 use Rattle.judging.specs.declared.sweep.Outcome.{Outcome}
 use Rattle.judging.specs.declared.sweep.Outcome.TheVariants.{Settled, SoFar}

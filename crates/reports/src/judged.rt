@@ -23,7 +23,7 @@ pub fn judge_all<L: ReadingLog>(
     verdicts: &mut Verdicts,
 ) -> usize
     ensures count { result ≡ (sheet_held sheet.now).0 }
-    ensures judged { verdicts.new ≡ verdicts_of (events log.now) (sheet_held sheet.now) ++ drop result verdicts.old }
+    ensures judged { verdicts.new ≡ verdicts_of (L.events log.now) (sheet_held sheet.now) ++ drop result verdicts.old }
 {
     let rules = sheet.rules();
     for rule in 0..rules {

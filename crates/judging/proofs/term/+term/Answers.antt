@@ -1,4 +1,4 @@
-use Rattle.std.proofs.Common.{◌+◌, refl, arith, rules}
+use Rattle.std.proofs.Common.{refl, arith, rules}
 use Rattle.rules.specs.Trees.{Begins, term_rows}
 use Rattle.rules.specs.declared.row.Row.TheVariants.{Not}
 use Rattle.rules.proofs.Heads.{term_by, term_within, no_term}

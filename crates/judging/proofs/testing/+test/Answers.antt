@@ -1,4 +1,4 @@
-use Rattle.std.proofs.Common.{◌+◌, refl, arith}
+use Rattle.std.proofs.Common.{refl, arith}
 use Rattle.rules.specs.Trees.{Begins, term_rows, test_rows}
 use Rattle.rules.specs.declared.row.Row.TheVariants.{Not}
 use Rattle.rules.proofs.Heads.{test_by, test_within, term_within, no_test}
