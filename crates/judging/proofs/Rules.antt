@@ -7,6 +7,7 @@ use Rattle.rules.specs.declared.sheet.Sheet.{Sheet}
 use Rattle.rules.specs.Trees.{reach_of}
 use Rattle.rules.specs.Sheets.{held, start_in, reach_in}
 use Rattle.rules.specs.Written.{rule_at, start_of}
+use Rattle.rules.proofs.Parts.{property_is}
 use Rattle.rules.proofs.Sheets.{rule_begins, rule_scoped}
 use Rattle.meaning.specs.declared.verdict.Verdict.{Verdict}
 use Rattle.meaning.specs.Verdicts.{verdict, judged}
@@ -14,7 +15,7 @@ use Rattle.judging.specs.declared.judge.JudgeRefusal.{JudgeRefusal}
 use Rattle.judging.specs.declared.judge.JudgeRefusal.TheVariants.{NoSuchRule, TooFewRows}
 use Rattle.judging.specs.Judging.{judge_answer}
 use Rattle.judging.specs.Machine.{judged_at, Standing}
-use Rattle.judging.proofs.Turns.{property_is, standing, depth_reach}
+use Rattle.judging.proofs.Turns.{standing, depth_reach}
 
 there : {A B : Type 0} (f : B → A) (b : Bool) (x : B) (y : B) (z : A) → ((v : B) → f v ≡ z → ⊥) → ((u v : B) → f u ≡ f v → u ≡ v) → f y ≡ cond b (f x) z → (b ≡ true) × (y ≡ x)
 there f true x y z other inj e = (refl, inj y x e)

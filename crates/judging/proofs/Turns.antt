@@ -14,11 +14,11 @@ use Rattle.rules.specs.declared.row.Side.{Side}
 use Rattle.rules.specs.declared.row.Side.TheVariants.{After, Before, Given}
 use Rattle.rules.specs.declared.known.Sort.TheVariants as sort
 use Rattle.rules.specs.Trees.{Test, Property, not_p, connect, occurrence, absence, scope, quantify, rows, test_rows, reach_of, Begins}
-use Rattle.rules.specs.Forest.{forest, property1, test1, property_at, test_at}
+use Rattle.rules.specs.Forest.{property_at, test_at}
 use Rattle.rules.specs.Wanted.{Sorts, room_in, ◌⊕◌ as ◌with◌}
 use Rattle.rules.specs.Scoped.{scoped as well_scoped}
-use Rattle.rules.proofs.Forests.{reads_property, reads_test}
 use Rattle.rules.proofs.Fronts.{front_row}
+use Rattle.rules.proofs.Parts.{property_is, test_is, test_begins}
 use Rattle.meaning.specs.declared.verdict.Origin.{Origin}
 use Rattle.meaning.specs.declared.verdict.Variable.TheVariants as var
 use Rattle.meaning.specs.declared.verdict.Verdict.{Verdict}
@@ -45,17 +45,6 @@ use Rattle.judging.proofs.Binding.{forgotten}
 use Rattle.judging.proofs.Counting.{count_few, places_many}
 use Rattle.judging.proofs.Folding.{combined_start, combined_none, combined_next}
 use Rattle.judging.proofs.Sweeps.{sweeps}
-
--- The tree of a part is read off its rows.
-
-pub property_is : (all : List Row) (at : ℕ) (p : Property) → Begins all at (rows p) → property_at all at ≡ p
-property_is all at p b = ap (λ l. property1 (forest l)) b.split ∙ ap property1 (reads_property p b.rest)
-
-pub test_is : (all : List Row) (at : ℕ) (t : Test) → Begins all at (test_rows t) → test_at all at ≡ t
-test_is all at t b = ap (λ l. test1 (forest l)) b.split ∙ ap test1 (reads_test t b.rest)
-
-pub test_begins : (all : List Row) (at : ℕ) (t : Test) → Begins all at (test_rows t) → Begins all at (test_rows (test_at all at))
-test_begins all at t b = subst (λ u. Begins all at (test_rows u)) (sym (test_is all at t b)) b
 
 -- no property begins with a row of another kind
 pub no_property : (all : List Row) (at : ℕ) (d : Row) (p : Property) → Begins all at (rows p) →
@@ -279,7 +268,7 @@ module _ (es : List Event) (rs : List Row) (room : ℕ) where
         omega arith
 
     module _ (sc : Scoping) (t : Test) (p : Property) (is : property_at rs at ≡ scope sc.side sc.pick sc.name sc.duration t p)
-        (first : Begins rs (at + 1) (test_rows t)) (second : Begins rs sc.body (rows p)) (test_at_lem : sc.test ≡ at + 1) (body_at : sc.body ≡ at + 1 + length (test_rows t)) where
+        (first : Begins rs (at + 1) (test_rows t)) (second : Begins rs sc.body (rows p)) (test_here : sc.test ≡ at + 1) (body_at : sc.body ≡ at + 1 + length (test_rows t)) where
       pub scope_ready : PlacesReady es rs room (length η) (length s) sc w w
       scope_ready =
           let k = ok.stands in
@@ -291,7 +280,7 @@ module _ (es : List Event) (rs : List Row) (room : ℕ) where
           let long = length_push k.sorts sort.Event in
           record {
             body = standing rs (length η + 1) sc.body (length s + 1) room p second (k.sorts with sort.Event) (omega arith) inner_fits.1 (omega arith);
-            test = subst (λ i. Begins rs i (test_rows (test_at rs i))) (sym test_at_lem) (test_begins rs (at + 1) t first);
+            test = subst (λ i. Begins rs i (test_rows (test_at rs i))) (sym test_here) (test_begins rs (at + 1) t first);
             space = omega arith;
             inside = ok.inside;
             within = omega arith;
@@ -301,7 +290,7 @@ module _ (es : List Event) (rs : List Row) (room : ℕ) where
       scope_worth =
           ap (resume es rs η s)
           (sweeps sc.pick w (delimiter_test es rs sc η) (inner es rs sc η w)
-          ∙ ap₂ (λ i x. scoped sc.pick w (asked es η i sc.name (test_at rs i)) (λ j. judged es (η ⊕ var.Event (event_at es j)) (window sc.side (time_at es) sc.duration j w) sc.body x)) test_at_lem (property_is rs sc.body p second)
+          ∙ ap₂ (λ i x. scoped sc.pick w (asked es η i sc.name (test_at rs i)) (λ j. judged es (η ⊕ var.Event (event_at es j)) (window sc.side (time_at es) sc.duration j w) sc.body x)) test_here (property_is rs sc.body p second)
           ∙ ap₂ (λ x i. scoped sc.pick w (asked es η (at + 1) sc.name x) (λ j. judged es (η ⊕ var.Event (event_at es j)) (window sc.side (time_at es) sc.duration j w) i p)) (test_is rs (at + 1) t first) body_at)
           ∙ sym (ap (λ x. resume es rs η s (judged es η w at x)) is)
 
@@ -315,7 +304,7 @@ module _ (es : List Event) (rs : List Row) (room : ℕ) where
           reworded o scope_worth (omega arith)
 
     module _ (q : Quantifying) (p : Property) (is : property_at rs at ≡ quantify q.quantifier q.variable q.code p)
-        (inner-begins : Begins rs (at + 1) (rows p)) (body_at : q.body ≡ at + 1) where
+        (inner_begins : Begins rs (at + 1) (rows p)) (body_at : q.body ≡ at + 1) where
       pub quantify_ready : ValuesReady es rs room (length η) (length s) q w
       quantify_ready =
           let k = ok.stands in
@@ -325,7 +314,7 @@ module _ (es : List Event) (rs : List Row) (room : ℕ) where
           let deep = subst (λ x. length s + depth_of x ≤ room) is k.deep in
           let long = length_push k.sorts sort.Number in
           record {
-            body = subst (λ i. Standing rs (length η + 1) i (length s + 1) room) (sym body_at) (standing rs (length η + 1) (at + 1) (length s + 1) room p inner-begins (k.sorts with sort.Number) (omega arith) fits.1 (omega arith));
+            body = subst (λ i. Standing rs (length η + 1) i (length s + 1) room) (sym body_at) (standing rs (length η + 1) (at + 1) (length s + 1) room p inner_begins (k.sorts with sort.Number) (omega arith) fits.1 (omega arith));
             space = omega arith;
             inside = ok.inside;
           }
@@ -336,12 +325,12 @@ module _ (es : List Event) (rs : List Row) (room : ℕ) where
           ap (resume es rs η s)
           (combined_start q.quantifier _
           ∙ ap (λ i. quantified q.quantifier vs (λ v. judged_at es rs (η ⊕ var.Number v) w i)) body_at
-          ∙ ap (λ x. quantified q.quantifier vs (λ v. judged es (η ⊕ var.Number v) w (at + 1) x)) (property_is rs (at + 1) p inner-begins))
+          ∙ ap (λ x. quantified q.quantifier vs (λ v. judged es (η ⊕ var.Number v) w (at + 1) x)) (property_is rs (at + 1) p inner_begins))
           ∙ sym (ap (λ x. resume es rs η s (judged es η w at x)) is)
 
       pub from_quantify : (v : Verdict) → v ≡ start q.quantifier → {θ : Variables} {u : Turn} {r : List JudgingRow} → Gathering η s q w 0 v quantify_ready ok.waits θ u r → From θ u r
       from_quantify v e o =
           let before : steps_at rs at ≡ 2 + 4 * (1 + steps p) = ap steps is in
-          let after : steps_at rs q.body ≡ steps p = ap (steps_at rs) body_at ∙ ap steps (property_is rs (at + 1) p inner-begins) in
+          let after : steps_at rs q.body ≡ steps p = ap (steps_at rs) body_at ∙ ap steps (property_is rs (at + 1) p inner_begins) in
           let same : 4 * (1 + steps_at rs q.body) ≡ 4 * (1 + steps p) = ap (λ x. 4 * (1 + x)) after in
           reworded o (ap (λ x. resume es rs η s (gathering es rs q η w x 0)) e ∙ quantify_worth) (omega arith)

@@ -10,28 +10,19 @@ use rules::row::{Connective, Junction};
 pub(crate) fn negate(v: Verdict) -> Verdict
     ensures { result ≡ not3 v }
 {
-    match v {
-        Verdict::Holds => Verdict::Fails,
-        Verdict::Fails => Verdict::Holds,
-        Verdict::Open(origin) => Verdict::Open(origin),
-    }
+    v.negate()
 }
 
 pub(crate) fn conjoin(v: Verdict, w: Verdict) -> Verdict
     ensures { result ≡ and3 v w }
 {
-    match (v, w) {
-        (Verdict::Holds, w) => w,
-        (Verdict::Fails, _) => Verdict::Fails,
-        (Verdict::Open(_), Verdict::Fails) => Verdict::Fails,
-        (Verdict::Open(origin), _) => Verdict::Open(origin),
-    }
+    v.and(w)
 }
 
 pub(crate) fn disjoin(v: Verdict, w: Verdict) -> Verdict
     ensures { result ≡ or3 v w }
 {
-    negate(conjoin(negate(v), negate(w)))
+    v.or(w)
 }
 
 pub(crate) fn connect(connective: Connective, v: Verdict, w: Verdict) -> Verdict

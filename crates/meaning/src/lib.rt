@@ -1,4 +1,5 @@
 #![tactic(auto)]
 
+mod connectives;
 pub mod numbers;
 pub mod verdict;

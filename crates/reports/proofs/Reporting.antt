@@ -22,19 +22,19 @@ taken : (size : ℕ) (o : Option ℕ) (b : Result (Unit {0}) ImageRefusal) → i
 taken size None b e = refl
 taken size (Some row) b e = absurd (either_some (ltb most_bytes size) _ _ e)
 
-module _ (bs : List ℕ) (sheet image : List ℕ) (sheet-is : sheet ≡ sheet_bytes bs) (image-is : image ≡ image_bytes bs) where
+module _ (bs : List ℕ) (sheet image : List ℕ) (sheet_is : sheet ≡ sheet_bytes bs) (image_is : image ≡ image_bytes bs) where
   module _ (former after : Held) (a : Result (Unit {0}) InspectRefusal) (b : Result (Unit {0}) ImageRefusal) (inspected : Inspected sheet former after a) (checked : b ≡ image_answer image) where
     pub refused_is : (o : Option InputRefusal) → o ≡ input_refusal (length bs) a b → o ≡ refusal_of bs
-    refused_is o e = e ∙ ap₂ (input_refusal (length bs)) (inspected.answer ∙ ap (λ l. answer_to (broken l)) sheet-is) (checked ∙ ap image_answer image-is)
+    refused_is o e = e ∙ ap₂ (input_refusal (length bs)) (inspected.answer ∙ ap (λ l. answer_to (broken l)) sheet_is) (checked ∙ ap image_answer image_is)
 
-    module _ (none : None ≡ input_refusal (length bs) a b) (es : List Event) (events-are : es ≡ image_events image) (r : ℕ) (count : r ≡ after.0) where
+    module _ (none : None ≡ input_refusal (length bs) a b) (es : List Event) (events_are : es ≡ image_events image) (r : ℕ) (count : r ≡ after.0) where
       quiet : None ≡ refusal_of bs
       quiet = refused_is None none
 
       held_is : after ≡ sheet_in bs
       held_is =
           inspected.sheet
-          ∙ ap (λ l. held_after (broken l) l former) sheet-is
+          ∙ ap (λ l. held_after (broken l) l former) sheet_is
           ∙ ap (λ o. held_after o (sheet_bytes bs) former) (taken (length bs) (broken (sheet_bytes bs)) (image_answer (image_bytes bs)) (sym quiet))
 
       count_is : r ≡ (sheet_in bs).0
@@ -46,5 +46,5 @@ module _ (bs : List ℕ) (sheet image : List ℕ) (sheet-is : sheet ≡ sheet_by
       pub written : (old new : List Verdict) → new ≡ verdicts_of es after ++ drop r old → new ≡ report_verdicts bs old
       written old new e =
           e
-          ∙ ap₂ (λ vs n. vs ++ drop n old) (ap₂ verdicts_of (events-are ∙ ap image_events image-is) held_is) count_is
+          ∙ ap₂ (λ vs n. vs ++ drop n old) (ap₂ verdicts_of (events_are ∙ ap image_events image_is) held_is) count_is
           ∙ ap (λ o. written_unless o (sheet_in bs).0 (verdicts_of (events_in bs) (sheet_in bs)) old) quiet

@@ -6,12 +6,12 @@ use Rattle.rules.specs.Trees.{Term, constant, time_of, value_of, number_of, reck
 use Rattle.rules.proofs.Fronts.{front_within, front_row, front_rest, front_left, front_right}
 
 -- what a tree of two parts is made of, and where its parts begin
-pub record Parts {A B C : Type 0} (first_rows : A → List Row) (second-rows : B → List Row) (all : List Row) (at : ℕ) (build : A → B → C) (whole : C) : Type 0 where
+pub record Parts {A B C : Type 0} (first_rows : A → List Row) (second_rows : B → List Row) (all : List Row) (at : ℕ) (build : A → B → C) (whole : C) : Type 0 where
   pub first : A
   pub second : B
   pub is : whole ≡ build first second
   pub left : Begins all (at + 1) (first_rows first)
-  pub right : Begins all (at + 1 + length (first_rows first)) (second-rows second)
+  pub right : Begins all (at + 1 + length (first_rows first)) (second_rows second)
 
 module _ (all : List Row) (at : ℕ) where
   two : {A B C : Type 0} {f : A → List Row} {g : B → List Row} {build : A → B → C} (r : Row) (x : A) (y : B) → Begins all at (r ∷ (f x ++ g y)) → Parts f g all at build (build x y)

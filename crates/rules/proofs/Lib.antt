@@ -11,4 +11,5 @@ mod Coded
 mod Bytes
 mod Extents
 mod Reached
+pub mod Parts
 pub mod Sheets

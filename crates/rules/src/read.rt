@@ -3,6 +3,7 @@ ghost use Rattle.std.specs.Prelude.{◌≡◌, ◌≤◌, [], ◌∷◌, length}
 ghost use Rattle.rules.specs.declared.known.Sort.TheVariants.{Event};
 ghost use Rattle.rules.specs.Decoded.{when};
 ghost use Rattle.rules.specs.Wanted.{property, test, known_as, binding, quantified, part_of, same_part, wants, followed};
+ghost use Rattle.rules.specs.Written.{begins_test};
 ghost use Rattle.rules.specs.Reading.{sorts, asked, shown, ReadAt};
 
 use crate::known::{Known, Sort};
@@ -115,6 +116,13 @@ pub(crate) fn same_part(x: Part, y: Part) -> bool
             true,
         _ => false,
     }
+}
+
+// Whether there is such a row, and a test begins with it.
+pub(crate) fn is_test_at(rows: &[Row], at: usize) -> bool
+    ensures { result ≡ begins_test rows.now at }
+{
+    at < rows.len() && same_part(Part::Test, part_of(rows[at]))
 }
 
 // What a row wants behind it, the variables known being these.

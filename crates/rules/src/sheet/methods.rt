@@ -1,11 +1,14 @@
-ghost use Rattle.std.specs.Prelude.{◌≡◌, ◌+◌, ◌<◌, ◌≤◌, [], length};
+ghost use Rattle.std.specs.Prelude.{◌≡◌, ◌+◌, ◌<◌, ◌≤◌, true, [], length};
 ghost use Rattle.rules.specs.Exact.{Exact};
 ghost use Rattle.rules.specs.Sheets.{held, start_in, reach_in, inspect_refusal_number, reach_refusal_number, Inspected};
-ghost use Rattle.rules.specs.Written.{start_of};
+ghost use Rattle.rules.specs.Trees.{Begins, test_rows};
+ghost use Rattle.rules.specs.Forest.{test_at};
+ghost use Rattle.rules.specs.Written.{start_of, begins_test};
 
 use crate::layout::{check_rules, decode_rows, pair_at, well_sized};
 use crate::limits::{MOST_ROWS, MOST_RULES};
 use crate::reach::property_rows;
+use crate::read::is_test_at;
 use crate::row::Row;
 use crate::sheet::{InspectRefusal, ReachRefusal, Sheet};
 
@@ -81,6 +84,14 @@ impl Sheet {
         ensures { result.now ≡ (held self.now).1 }
     {
         &self.rows[0..self.count]
+    }
+
+    // Whether a test begins at a row. Its rows then stand there whole.
+    pub fn begins_test(&self, row: usize) -> bool
+        ensures same { result ≡ begins_test (held self.now).1 row }
+        ensures whole { result ≡ true → Begins (held self.now).1 row (test_rows (test_at (held self.now).1 row)) }
+    {
+        is_test_at(self.rows(), row)
     }
 
     // The first row of a rule.

@@ -3,6 +3,7 @@ use Rattle.std.proofs.lemmas.Bool.{and_parts}
 use Rattle.rules.specs.declared.row.Row.TheVariants.{Not}
 use Rattle.rules.specs.Trees.{rows, test_rows, Begins}
 use Rattle.rules.specs.Forest.{property_at}
+use Rattle.rules.proofs.Parts.{test_is, test_begins}
 use Rattle.rules.proofs.Heads.{property_by, test_within, property_within}
 use Rattle.meaning.specs.Three.{not3, at_least3}
 use Rattle.meaning.specs.Terms.{asked}
@@ -16,7 +17,7 @@ use Rattle.judging.specs.Machine.{steps, depth_of, PlacesReady, ValuesReady, Onw
 use Rattle.stacks.specs.Stacks.{held, room}
 use Rattle.judging.proofs.Endings.{test_part, property_part, part_place}
 use Rattle.stacks.proofs.Piling.{with_room}
-use Rattle.judging.proofs.Turns.{no_property, test_is, test_begins, onto, on_not, on_connect, on_leaf, binds, scope_ready, from_scope, quantify_ready, from_quantify}
+use Rattle.judging.proofs.Turns.{no_property, onto, on_not, on_connect, on_leaf, binds, scope_ready, from_scope, quantify_ready, from_quantify}
 use Rattle.judging.proofs.machine.descend.Goals as goal
 
 pub bounds-ends-at : goal.bounds-ends-at

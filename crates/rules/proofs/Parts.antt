@@ -1,14 +1,10 @@
--- Each row of rules begins the part that its form says, and the tree of a part is read off its rows.
+-- Each row of rules begins the part that it says, and the tree of a part is read off its rows.
 use Rattle.std.proofs.Common.{◌≡◌, ℕ, zero, suc, ◌+◌, ◌-◌, ◌<◌, true, ltb, List, [], ◌∷◌, ◌++◌, length, get_or, sym, refl, ap, ◌∙◌, subst, inl, inr, append-nil, arith}
 use Rattle.std.proofs.lemmas.List.{length-append}
 use Rattle.std.proofs.lemmas.Bool.{and_from, and_parts, cases_lt, lt-ltb, ltb-true}
-use Rattle.rows.specs.declared.row.Form.{Form}
-use Rattle.rows.specs.declared.row.Form.TheVariants.{Not, Connect, Occurrence, Absence, Scope, Quantify, True, NotTest, Join, Compare, Constant, Time, Value, Number, Reckon}
-use Rattle.rows.specs.declared.row.Row.{Row}
-use Rattle.rows.specs.declared.row.Row.TheVariants as row
-use Rattle.rows.specs.Decoded.{delimiter}
-use Rattle.rows.specs.Forms.{form_of, row_of}
-use Rattle.rows.proofs.Options.{false_true}
+use Rattle.rules.specs.declared.row.Row.{Row}
+use Rattle.rules.specs.declared.row.Row.TheVariants.{Not, Connect, Occurrence, Absence, Scope, Quantify, True, NotTest, Join, Compare, Constant, Time, Value, Number, Reckon}
+use Rattle.rules.proofs.Options.{false_true}
 use Rattle.rules.specs.declared.read.Part.{Part}
 use Rattle.rules.specs.declared.read.Part.TheVariants as part
 use Rattle.rules.specs.Trees.{Term, constant, time_of, value_of, number_of, reckon, Test, always, not_t, join, compare, Property, not_p, connect, occurrence, absence, scope, quantify, term_rows, test_rows, rows, Begins}
@@ -16,8 +12,8 @@ use Rattle.rules.specs.Forest.{forest, property1, test1, property_at, test_at, r
 use Rattle.rules.specs.Wanted.{part_of, same_part}
 use Rattle.rules.specs.Written.{begins_test}
 use Rattle.rules.proofs.Forests.{reads_property, reads_test}
-use Rattle.rules.proofs.Fronts.{front_rest, front_left, front_right}
-use Rattle.rules.proofs.Heads.{is-form, test_within}
+use Rattle.rules.proofs.Fronts.{front_row, front_rest, front_left, front_right}
+use Rattle.rules.proofs.Heads.{test_within}
 use Rattle.rules.proofs.Taken.{Writes}
 
 pub property_is : (all : List Row) (at : ℕ) (p : Property) → Begins all at (rows p) → property_at all at ≡ p
@@ -48,34 +44,31 @@ module _ (all : List Row) where
   BeginsAt part.Test at = (t : Test) × Begins all at (test_rows t)
   BeginsAt part.Term at = (t : Term) × Begins all at (term_rows t)
 
-  abbrev form_at : ℕ → Form
-  form_at at = form_of (get_or all at row.Not)
+  abbrev row_at : ℕ → Row
+  row_at at = get_or all at Not
 
-  -- the part that the form of a row says begins there
+  -- the part that a row says begins there
   abbrev Said : ℕ → Type 0
-  Said at = BeginsAt (part_of (form_at at)) at
+  Said at = BeginsAt (part_of (row_at at)) at
 
-  of_form : (at : ℕ) (f : Form) (rs : List Row) → Begins all at (row_of f ∷ rs) → form_at at ≡ f
-  of_form at f rs b = is-form all at row.Not (form_at at) refl f rs b
+  said : (at : ℕ) (r : Row) (rs : List Row) → Begins all at (r ∷ rs) → BeginsAt (part_of r) at → Said at
+  said at r rs b here = subst (λ s. BeginsAt (part_of s) at) (sym (front_row all at r rs b Not)) here
 
-  said : (at : ℕ) (f : Form) (rs : List Row) → Begins all at (row_of f ∷ rs) → BeginsAt (part_of f) at → Said at
-  said at f rs b here = subst (λ g. BeginsAt (part_of g) at) (sym (of_form at f rs b)) here
+  each_leaf : (at : ℕ) (r : Row) → Begins all at (r ∷ []) → BeginsAt (part_of r) at → (k : ℕ) → k < 1 → Said (at + k)
+  each_leaf at r b here = each Said at 0 0 (said at r [] b here) (nothing Said (at + 1)) (nothing Said (at + 1 + 0))
 
-  each_leaf : (at : ℕ) (f : Form) → Begins all at (row_of f ∷ []) → BeginsAt (part_of f) at → (k : ℕ) → k < 1 → Said (at + k)
-  each_leaf at f b here = each Said at 0 0 (said at f [] b here) (nothing Said (at + 1)) (nothing Said (at + 1 + 0))
-
-  each_one : (at : ℕ) (f : Form) (xs : List Row) → Begins all at (row_of f ∷ xs) → BeginsAt (part_of f) at →
+  each_one : (at : ℕ) (r : Row) (xs : List Row) → Begins all at (r ∷ xs) → BeginsAt (part_of r) at →
       (Begins all (at + 1) xs → (k : ℕ) → k < length xs → Said (at + 1 + k)) → (k : ℕ) → k < suc (length xs) → Said (at + k)
-  each_one at f xs b here inner k h =
-      each Said at (length xs) 0 (said at f xs b here) (inner (front_rest all at _ _ b row.Not)) (nothing Said (at + 1 + length xs)) k (omega arith)
+  each_one at r xs b here inner k h =
+      each Said at (length xs) 0 (said at r xs b here) (inner (front_rest all at _ _ b Not)) (nothing Said (at + 1 + length xs)) k (omega arith)
 
-  each_two : (at : ℕ) (f : Form) (xs ys : List Row) → Begins all at (row_of f ∷ (xs ++ ys)) → BeginsAt (part_of f) at →
+  each_two : (at : ℕ) (r : Row) (xs ys : List Row) → Begins all at (r ∷ (xs ++ ys)) → BeginsAt (part_of r) at →
       (Begins all (at + 1) xs → (k : ℕ) → k < length xs → Said (at + 1 + k)) → (Begins all (at + 1 + length xs) ys → (k : ℕ) → k < length ys → Said (at + 1 + length xs + k)) →
       (k : ℕ) → k < suc (length (xs ++ ys)) → Said (at + k)
-  each_two at f xs ys b here left right k h =
-      let rest = front_rest all at _ _ b row.Not in
+  each_two at r xs ys b here left right k h =
+      let rest = front_rest all at _ _ b Not in
       let long = length-append xs ys in
-      each Said at (length xs) (length ys) (said at f (xs ++ ys) b here) (left (front_left all (at + 1) xs ys rest)) (right (front_right all (at + 1) xs ys rest)) k (omega arith)
+      each Said at (length xs) (length ys) (said at r (xs ++ ys) b here) (left (front_left all (at + 1) xs ys rest)) (right (front_right all (at + 1) xs ys rest)) k (omega arith)
 
   of_term : (t : Term) (at : ℕ) → Begins all at (term_rows t) → (k : ℕ) → k < length (term_rows t) → Said (at + k)
   of_term (constant n) at b = each_leaf at (Constant n) b (constant n, b)
@@ -96,7 +89,7 @@ module _ (all : List Row) where
   of_property (occurrence a n t) at b = each_one at (Occurrence a n) (test_rows t) b (occurrence a n t, b) (of_test t (at + 1))
   of_property (absence a t) at b = each_one at (Absence a) (test_rows t) b (absence a t, b) (of_test t (at + 1))
   of_property (scope s o a d t p) at b =
-      each_two at (Scope s (delimiter o a d)) (test_rows t) (rows p) b (scope s o a d t p, b) (of_test t (at + 1)) (of_property p (at + 1 + length (test_rows t)))
+      each_two at (Scope s o a d) (test_rows t) (rows p) b (scope s o a d t p, b) (of_test t (at + 1)) (of_property p (at + 1 + length (test_rows t)))
   of_property (quantify q a c p) at b = each_one at (Quantify q a c) (rows p) b (quantify q a c p, b) (of_property p (at + 1))
 
   of_rules : (ps : List Property) (at : ℕ) → Begins all at (written ps) → (k : ℕ) → k < length (written ps) → Said (at + k)
@@ -115,10 +108,10 @@ module _ (all : List Row) where
   is_test part.Test h = refl
   is_test part.Term h = false_true h
 
-  -- where a test begins by the form of a row, its rows stand there
+  -- where a test begins, as a row says, its rows stand there
   pub test_stands : (rules : ℕ) → Writes all rules → (at : ℕ) → begins_test all at ≡ true → Begins all at (test_rows (test_at all at))
   test_stands n w at h =
-      let k = and_parts (ltb at (length all)) (same_part part.Test (part_of (form_at at))) h in
+      let k = and_parts (ltb at (length all)) (same_part part.Test (part_of (row_at at))) h in
       let ps = rules_of all in
       let whole : Begins all 0 (written ps) = record { rest = []; split = sym w.spelt ∙ sym (append-nil (written ps)) } in
       let long = ap length w.spelt in
@@ -132,10 +125,10 @@ module _ (all : List Row) where
   pub test_begun : (t : Test) (at : ℕ) → Begins all at (test_rows t) → begins_test all at ≡ true
   test_begun t at b = and_from _ _ (lt-ltb _ _ (test_within all at t b)) (part_is t b)
     where
-      by : (f : Form) (rs : List Row) → Begins all at (row_of f ∷ rs) → part_of f ≡ part.Test → same_part part.Test (part_of (form_at at)) ≡ true
-      by f rs c e = ap (same_part part.Test) (ap part_of (of_form at f rs c) ∙ e)
+      by : (r : Row) (rs : List Row) → Begins all at (r ∷ rs) → part_of r ≡ part.Test → same_part part.Test (part_of (row_at at)) ≡ true
+      by r rs c e = ap (same_part part.Test) (ap part_of (front_row all at r rs c Not) ∙ e)
 
-      part_is : (u : Test) → Begins all at (test_rows u) → same_part part.Test (part_of (form_at at)) ≡ true
+      part_is : (u : Test) → Begins all at (test_rows u) → same_part part.Test (part_of (row_at at)) ≡ true
       part_is always c = by True _ c refl
       part_is (not_t u) c = by NotTest _ c refl
       part_is (join j u v) c = by (Join j) _ c refl
