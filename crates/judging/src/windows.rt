@@ -1,5 +1,5 @@
 // The windows that scopes judge, as pairs (from, to) of places, the second outside.
-ghost use Rattle.std.specs.Prelude.{◌≡◌, ◌+◌, ◌<◌, ◌≤◌, ltb, length, nat_lt};
+ghost use Rattle.std.specs.Prelude.{◌≡◌, ◌+◌, ◌<◌, ◌≤◌, length, nat_lt};
 ghost use Rattle.logs.specs.Events.{event_at};
 ghost use Rattle.logs.specs.Lawful.{time_at};
 ghost use Rattle.meaning.specs.Three.{count};
@@ -26,7 +26,7 @@ fn is_below(time: u32, limit: u64) -> bool
 // The first place of the window with a time of at least `limit`, found by halving, or the window's end.
 fn first_from<L: ReadingLog>(log: &L, limit: u64, window: (u16, u16)) -> u16
     requires { window.1 ≤ length (L.events log.now) }
-    ensures { result ≡ window.0 + count (λ j. ltb (time_at (L.events log.now) j) limit) (places window.0 window.1) }
+    ensures { result ≡ window.0 + count (λ j. nat_lt (time_at (L.events log.now) j) limit) (places window.0 window.1) }
 {
     let (mut low, mut high) = window;
     while low < high {

@@ -1,7 +1,6 @@
 -- The bytes of an image: the events of a log, as they are stored. Numbers have the lowest byte first.
 use Rattle.std.specs.Prelude.{◌≡◌, ℕ, zero, suc, ◌+◌, ◌*◌, ◌≤◌, Bool, true, false, cond, ◌&&◌, ◌||◌, List, [], ◌∷◌, map, length, ℤ, Some, None, Option, ◌==◌, nat_le, slice_index}
-use Rattle.std.proofs.Common.{to_z}
-use Rattle.std.specs.Int.{w32}
+use Rattle.std.specs.Int.{cast_signed, w32}
 use Rattle.std.specs.List.{range_with_len}
 use Rattle.logs.specs.declared.event.Event.{Event}
 use Rattle.logs.specs.declared.event.Value.{Value}
@@ -19,7 +18,7 @@ abbrev pub four : List ℕ → ℕ → ℕ
 four bs i = byte bs i + byte bs (i + 1) * 256 + byte bs (i + 2) * 65536 + byte bs (i + 3) * 16777216
 
 abbrev pub signed : List ℕ → ℕ → ℤ
-signed bs i = to_z w32 (four bs i)
+signed bs i = cast_signed w32 (four bs i)
 
 -- an image begins with how many events it has, and how wide the body of each is
 abbrev pub event_count : List ℕ → ℕ

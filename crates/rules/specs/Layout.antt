@@ -1,7 +1,6 @@
 -- The bytes of a sheet. Numbers have the lowest byte first.
 use Rattle.std.specs.Prelude.{◌≡◌, ℕ, zero, suc, ◌+◌, ◌*◌, ◌≤◌, Bool, cond, ◌&&◌, List, [], ◌∷◌, length, replicate, ℤ, Some, None, Option, ◌==◌, nat_le, slice_index}
-use Rattle.std.proofs.Common.{to_z}
-use Rattle.std.specs.Int.{w32}
+use Rattle.std.specs.Int.{cast_signed, w32}
 use Rattle.rules.specs.declared.raw.RawRow.{RawRow}
 use Rattle.rules.specs.declared.row.Row.{Row}
 use Rattle.rules.specs.Limits.{most_rules, most_rows}
@@ -15,7 +14,7 @@ abbrev pub pair : List ℕ → ℕ → ℕ
 pair bs i = byte bs i + byte bs (i + 1) * 256
 
 abbrev pub signed : List ℕ → ℕ → ℤ
-signed bs i = to_z w32 (byte bs i + byte bs (i + 1) * 256 + byte bs (i + 2) * 65536 + byte bs (i + 3) * 16777216)
+signed bs i = cast_signed w32 (byte bs i + byte bs (i + 1) * 256 + byte bs (i + 2) * 65536 + byte bs (i + 3) * 16777216)
 
 -- how many rules, and how many rows
 abbrev pub rule_count : List ℕ → ℕ
