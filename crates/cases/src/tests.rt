@@ -9,7 +9,6 @@ use reports::report::report;
 use rules::limits::{MOST_ROWS, MOST_RULES};
 use rules::sheet::Sheet;
 use std::alloc::Global;
-use std::process::Abort;
 use std::test::Fail;
 
 // The kind of a row, its fields a and b, and its number.
@@ -143,91 +142,63 @@ fn told(heap: Global, bytes: &[u8]) -> Result<String, Fail> {
     }
 }
 
+// Fails if another line is said than this.
+fn same(said: &str, line: &str) -> Result<(), &'static str> {
+    if said == line {
+        Ok(())
+    } else {
+        Err("another line")
+    }
+}
+
 // A sheet with one rule over a log.
-fn over(
-    rt: &impl Abort,
-    heap: Global,
-    rows: &[Raw],
-    events: &[Noted],
-    line: &str,
-) -> Result<(), Fail> {
+fn over(heap: Global, rows: &[Raw], events: &[Noted], line: &str) -> Result<(), Fail> {
     let mut bytes = sheet_bytes(heap, 1, rows)?;
     let image = image_bytes(heap, events)?;
     bytes.extend_from_slice(image.as_slice())?;
-    assert_eq!(rt; told(heap, bytes.as_slice())?.as_str(), line);
+    same(told(heap, bytes.as_slice())?.as_str(), line)?;
     Ok(())
 }
 
 #[test]
 fn occurrences(rt: HostRuntime) -> Result<(), Fail> {
     let heap = rt.alloc();
+    over(heap, &occurs_three(1), &log_with(Seven::Unread), "0 holds")?;
     over(
-        &rt,
-        heap,
-        &occurs_three(1),
-        &log_with(Seven::Unread),
-        "0 holds",
-    )?;
-    over(
-        &rt,
         heap,
         &occurs_three(2),
         &log_with(Seven::Unread),
         "0 open 2 2 3",
     )?;
-    over(
-        &rt,
-        heap,
-        &occurs_three(2),
-        &log_with(Seven::Read(3)),
-        "0 holds",
-    )?;
-    over(
-        &rt,
-        heap,
-        &occurs_three(2),
-        &log_with(Seven::Read(4)),
-        "0 fails",
-    )?;
-    over(&rt, heap, &occurs_three(0), &[], "0 holds")?;
-    over(&rt, heap, &occurs_three(1), &[], "0 fails")
+    over(heap, &occurs_three(2), &log_with(Seven::Read(3)), "0 holds")?;
+    over(heap, &occurs_three(2), &log_with(Seven::Read(4)), "0 fails")?;
+    over(heap, &occurs_three(0), &[], "0 holds")?;
+    over(heap, &occurs_three(1), &[], "0 fails")
 }
 
 #[test]
 fn scopes(rt: HostRuntime) -> Result<(), Fail> {
     let heap = rt.alloc();
     let unread = log_with(Seven::Unread);
-    over(&rt, heap, &followed(), &unread, "0 holds")?;
-    over(&rt, heap, &followed(), &[], "0 holds")?;
-    over(&rt, heap, &last_three(), &unread, "0 open 2 2 3")?;
-    over(
-        &rt,
-        heap,
-        &last_three(),
-        &log_with(Seven::Read(3)),
-        "0 holds",
-    )?;
-    over(
-        &rt,
-        heap,
-        &last_three(),
-        &log_with(Seven::Read(4)),
-        "0 fails",
-    )?;
-    over(&rt, heap, &two_within(9), &unread, "0 fails")?;
-    over(&rt, heap, &two_within(10), &unread, "0 holds")?;
+    over(heap, &followed(), &unread, "0 holds")?;
+    over(heap, &followed(), &[], "0 holds")?;
+    over(heap, &last_three(), &unread, "0 open 2 2 3")?;
+    over(heap, &last_three(), &log_with(Seven::Read(3)), "0 holds")?;
+    over(heap, &last_three(), &log_with(Seven::Read(4)), "0 fails")?;
+    over(heap, &two_within(9), &unread, "0 fails")?;
+    over(heap, &two_within(10), &unread, "0 holds")?;
     let none_before = [(8, 3, 1, 0), (20, 0, 0, 0), (6, 1, 0, 0), (20, 0, 0, 0)];
-    over(&rt, heap, &none_before, &unread, "0 fails")
+    over(heap, &none_before, &unread, "0 fails")
 }
 
 #[test]
 fn quotients(rt: HostRuntime) -> Result<(), Fail> {
     let heap = rt.alloc();
     let log = log_with(Seven::Unread);
-    over(&rt, heap, &divides(-7, 2, -3), &log, "0 holds")?;
-    over(&rt, heap, &divides(-7, 2, -4), &log, "0 fails")?;
-    over(&rt, heap, &divides(i32::MIN, -1, 0), &log, "0 open 2 0 4")?;
-    over(&rt, heap, &divides(5, 0, 0), &log, "0 open 2 0 5")
+    over(heap, &divides(-7, 2, -3), &log, "0 holds")?;
+    over(heap, &divides(-7, 2, -4), &log, "0 fails")?;
+    over(heap, &divides(i32::MIN, -1, 0), &log, "0 open 2 0 4")?;
+    over(heap, &divides(5, 0, 0), &log, "0 open 2 0 5")
 }
 
 #[test]
@@ -238,16 +209,14 @@ fn refused_sheets(rt: HostRuntime) -> Result<(), Fail> {
     let mut short = sheet_bytes(heap, 1, &rule)?;
     let _ = short.pop();
     assert_eq!(rt; told(heap, short.as_slice())?.as_str(), "refused 6 0");
-    over(&rt, heap, &rule[..3], &log, "refused 6 3")?;
+    over(heap, &rule[..3], &log, "refused 6 3")?;
     over(
-        &rt,
         heap,
         &[(6, 2, 0, 0), (20, 0, 0, 0), (20, 0, 0, 0)],
         &log,
         "refused 6 2",
     )?;
     over(
-        &rt,
         heap,
         &[(6, 2, 0, 0), (24, 0, 0, 0), (32, 1, 7, 0), (30, 0, 0, 3)],
         &log,
@@ -262,7 +231,7 @@ fn refused_images(rt: HostRuntime) -> Result<(), Fail> {
     let mut log = log_with(Seven::Unread);
     log[2].0 = 4;
     log[3].0 = 3;
-    over(&rt, heap, &rule, &log, "refused 12 2")?;
+    over(heap, &rule, &log, "refused 12 2")?;
     let mut bytes = sheet_bytes(heap, 1, &rule)?;
     bytes.extend_from_slice(&[0, 0, 27, 0])?;
     assert_eq!(rt; told(heap, bytes.as_slice())?.as_str(), "refused 12 65535");

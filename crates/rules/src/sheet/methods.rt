@@ -1,7 +1,7 @@
 ghost use Rattle.std.specs.Prelude.{◌≡◌, ◌+◌, ◌<◌, ◌≤◌, true, [], length};
 ghost use Rattle.rules.specs.Exact.{Exact};
 ghost use Rattle.rules.specs.Sheets.{held, start_in, reach_in, inspect_refusal_number, reach_refusal_number, Inspected};
-ghost use Rattle.rules.specs.Trees.{Begins, test_rows};
+ghost use Rattle.rules.specs.Trees.{Test, Begins, test_rows};
 ghost use Rattle.rules.specs.Forest.{test_at};
 ghost use Rattle.rules.specs.Written.{start_of, begins_test};
 
@@ -86,10 +86,11 @@ impl Sheet {
         &self.rows[0..self.count]
     }
 
-    // Whether a test begins at a row. Its rows then stand there whole.
+    // Whether a test begins at a row. Its rows then stand there whole; and where rows of a test stand, it begins.
     pub fn begins_test(&self, row: usize) -> bool
         ensures same { result ≡ begins_test (held self.now).1 row }
         ensures whole { result ≡ true → Begins (held self.now).1 row (test_rows (test_at (held self.now).1 row)) }
+        ensures only { (t : Test) → Begins (held self.now).1 row (test_rows t) → result ≡ true }
     {
         is_test_at(self.rows(), row)
     }
