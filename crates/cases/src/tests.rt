@@ -3,10 +3,9 @@ use judging::judge::judge;
 use judging::working::JudgingRow;
 use logs::image::ImageLog;
 use logs::log::ReadingLog;
-use meaning::verdict::Verdict;
 use reports::line::Line;
 use reports::report::report;
-use rules::limits::{MOST_ROWS, MOST_RULES};
+use rules::limits::MOST_ROWS;
 use rules::sheet::Sheet;
 use std::alloc::Global;
 use std::test::Fail;
@@ -129,14 +128,10 @@ fn divides(x: i32, y: i32, z: i32) -> [Raw; 6] {
 // What is written of an input: its first line.
 fn told(heap: Global, bytes: &[u8]) -> Result<String, Fail> {
     let mut work = [JudgingRow::Negation; MOST_ROWS];
-    let mut verdicts = [Verdict::Holds; MOST_RULES];
-    match report(bytes, &mut work, &mut verdicts) {
-        Ok(_) => {
-            let line = Line {
-                rule: 0,
-                verdict: verdicts[0],
-            };
-            Ok(line.to_string(heap)?)
+    match report(bytes, &mut work) {
+        Ok(verdicts) => {
+            let verdict = verdicts.get(0).ok_or("no rule")?;
+            Ok(Line { rule: 0, verdict }.to_string(heap)?)
         }
         Err(refusal) => Ok(refusal.to_string(heap)?),
     }
@@ -238,17 +233,9 @@ fn refused_images(rt: HostRuntime) -> Result<(), Fail> {
     Ok(())
 }
 
-// The number of a refusal, or 0 for a verdict, with one working row or two.
-fn judged(sheet: &Sheet, log: &ImageLog, rule: usize, few: bool) -> u8 {
-    let answer = if few {
-        judge(log, sheet, rule, &mut [JudgingRow::Negation])
-    } else {
-        judge(log, sheet, rule, &mut [JudgingRow::Negation; 2])
-    };
-    match answer {
-        Ok(_) => 0,
-        Err(refusal) => refusal.number(),
-    }
+// The number of the refusal, if a judging is refused.
+fn refusal(sheet: &Sheet, log: &ImageLog, rule: usize, work: &mut [JudgingRow]) -> Option<u8> {
+    judge(log, sheet, rule, work).err().map(u8::from)
 }
 
 #[test]
@@ -267,9 +254,10 @@ fn refused_judgings(rt: HostRuntime) -> Result<(), Fail> {
     ];
     let bytes = sheet_bytes(heap, 2, &rows)?;
     assert!(rt; sheet.inspect(bytes.as_slice()).is_ok());
-    assert_eq!(rt; judged(&sheet, &log, 0, false), 0);
-    assert_eq!(rt; judged(&sheet, &log, 0, true), 11);
-    assert_eq!(rt; judged(&sheet, &log, 1, true), 0);
-    assert_eq!(rt; judged(&sheet, &log, 2, false), 7);
+    let row = JudgingRow::Negation;
+    assert_eq!(rt; refusal(&sheet, &log, 0, &mut [row; 2]), None);
+    assert_eq!(rt; refusal(&sheet, &log, 0, &mut [row]), Some(11));
+    assert_eq!(rt; refusal(&sheet, &log, 1, &mut [row]), None);
+    assert_eq!(rt; refusal(&sheet, &log, 2, &mut [row; 2]), Some(7));
     Ok(())
 }

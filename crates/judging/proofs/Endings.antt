@@ -20,7 +20,7 @@ two r xs ys e p q n rs =
     ap (λ m. beyond m ((xs ++ ys) ++ rs)) k ∙ ap (beyond (suc (suc n))) (append_assoc xs ys rs) ∙ p (suc n) (ys ++ rs) ∙ q n rs
 
 leaf : (r : Row) → arity r ≡ 0 → Part (r ∷ [])
-leaf r e n rs = let k : arity r + n ≡ n = omega arith in ap (λ m. beyond m rs) k
+leaf r e n rs = grind arith
 
 pub term_part : (t : Term) → Part (term_rows t)
 term_part (constant k) = leaf (Constant k) refl
@@ -65,7 +65,7 @@ module _ (all : List Row) (i n : ℕ) where
       none (suc m) k = refl
 
       out : length all ≤ i → ⊥
-      out l = let e = ap (λ rs. is_some (beyond n rs)) (drop_all i all l) ∙ ap is_some (none n some) in let z : true ≡ false = sym h ∙ e in let y : ◌≡◌ {A = ℕ} 0 1 = cc in omega arith
+      out l = let e = ap (λ rs. is_some (beyond n rs)) (drop_all i all l) ∙ ap is_some (none n some) in let z : true ≡ false = sym h ∙ e in cc
 
   pub beyond_next : (d : Row) → 0 < n → i < length all → beyond n (drop i all) ≡ beyond (arity (get_or all i d) + (n - 1)) (drop (i + 1) all)
   beyond_next d some l =
@@ -73,21 +73,7 @@ module _ (all : List Row) (i n : ℕ) where
       ap (λ m. beyond m (drop i all)) e ∙ ap (beyond (suc (n - 1))) (drop_more all i d l)
 
 pub arity_few : (r : Row) → arity r ≤ 2
-arity_few Not = omega arith
-arity_few (Connect c) = omega arith
-arity_few (Occurrence a n) = omega arith
-arity_few (Absence a) = omega arith
-arity_few (Scope s o a d) = omega arith
-arity_few (Quantify q a b) = omega arith
-arity_few True = omega arith
-arity_few NotTest = omega arith
-arity_few (Join j) = omega arith
-arity_few (Compare s) = omega arith
-arity_few (Constant k) = omega arith
-arity_few (Time a) = omega arith
-arity_few (Value a b) = omega arith
-arity_few (Number a) = omega arith
-arity_few (Reckon o) = omega arith
+arity_few r = grind arith
 
 -- Ends, one by one.
 
@@ -98,17 +84,13 @@ then_beyond n (Some rs) = beyond n rs
 
 beyond_split : (m n : ℕ) (xs : List Row) → beyond (m + n) xs ≡ then_beyond n (beyond m xs)
 unfolding then_beyond
-beyond_split zero n xs = let e : 0 + n ≡ n = omega arith in ap (λ k. beyond k xs) e
-beyond_split (suc m) n [] = let e : suc m + n ≡ suc (m + n) = omega arith in ap (λ k. beyond k []) e
-beyond_split (suc m) n (r ∷ rs) =
-    let e : suc m + n ≡ suc (m + n) = omega arith in
-    let a : arity r + (m + n) ≡ arity r + m + n = omega arith in
-    ap (λ k. beyond k (r ∷ rs)) e ∙ ap (λ k. beyond k rs) a ∙ beyond_split (arity r + m) n rs
+beyond_split zero n xs = grind arith
+beyond_split (suc m) n [] = grind arith
+beyond_split (suc m) n (r ∷ rs) = grind (arith, beyond_split (arity r + m) n rs)
 
 first_some : (n : ℕ) (o : Option (List Row)) → is_some (then_beyond n o) ≡ true → is_some o ≡ true
 unfolding then_beyond
-first_some n None h = h
-first_some n (Some rs) h = refl
+first_some n o h = grind arith
 
 module _ (rs : List Row) where
   -- the parts from row i on have their ends in the list

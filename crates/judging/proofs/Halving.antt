@@ -1,19 +1,11 @@
 -- A window halved until the first place with a time of at least a limit is found.
-use Rattle.std.proofs.Common.{◌≡◌, ℕ, zero, suc, ◌+◌, ◌-◌, ◌<◌, ◌≤◌, Bool, not, ltb, List, length, get_or, unwrap_or, sym, refl, ap, ◌∙◌, ⊎_elim, arith}
-use Rattle.std.proofs.lemmas.List.{get_or_past}
-use Rattle.std.proofs.lemmas.Option.{slice_get-get_or, slice_get_past}
+use Rattle.std.proofs.Common.{◌≡◌, ℕ, zero, suc, ◌+◌, ◌-◌, ◌<◌, ◌≤◌, Bool, not, ltb, List, length, sym, refl, ◌∙◌, ⊎_elim, arith}
 use Rattle.std.proofs.lemmas.Bool.{cases_lt, lt-ltb, le-ltb}
-use Rattle.std.specs.List.{slice_get}
 use Rattle.logs.specs.declared.event.Event.{Event}
 use Rattle.logs.specs.Lawful.{NeverFalls, time_at}
 use Rattle.meaning.specs.Three.{count}
 use Rattle.meaning.specs.Windows.{places, upfrom, near}
 use Rattle.meaning.proofs.Durations.{never_falls, counted, count_empty}
-
-pub nth_or : {X : Type 0} (xs : List X) (i : ℕ) (d : X) → unwrap_or (slice_get xs i) d ≡ get_or xs i d
-nth_or xs i d =
-    ⊎_elim (λ h. ap (λ o. unwrap_or o d) (slice_get-get_or xs i d h))
-    (λ h. ap (λ o. unwrap_or o d) (slice_get_past xs i h) ∙ sym (get_or_past xs i d h)) (cases_lt i (length xs))
 
 -- the times before `low` are below the limit, and those from `high` on are not
 pub record Halved (t : ℕ → ℕ) (limit from to low high : ℕ) : Type 0 where
@@ -23,16 +15,6 @@ pub record Halved (t : ℕ → ℕ) (limit from to low high : ℕ) : Type 0 wher
   pub empty : to ≤ from → low ≡ from
   pub before : (j : ℕ) → from ≤ j → j < low → t j < limit
   pub behind : (j : ℕ) → high ≤ j → j < to → limit ≤ t j
-
-pub halved_start : (t : ℕ → ℕ) (limit from to : ℕ) → Halved t limit from to from to
-halved_start t limit from to = record {
-  above = omega arith;
-  below = omega arith;
-  met = λ h. h;
-  empty = λ h. refl;
-  before = λ j h k. absurd (omega arith);
-  behind = λ j h k. absurd (omega arith);
-}
 
 module _ (es : List Event) (order : NeverFalls es) (limit from to low high middle : ℕ) (fits : to ≤ length es)
     (h : Halved (time_at es) limit from to low high) (inside : low ≤ middle) (less : middle < high) where
@@ -70,7 +52,7 @@ halved_end t limit from to low high h done = ⊎_elim some none (cases_lt from t
 
 count_same : (p q : ℕ → Bool) → ((j : ℕ) → p j ≡ q j) → (n i : ℕ) → count p (upfrom i n) ≡ count q (upfrom i n)
 count_same p q e zero i = refl
-count_same p q e (suc n) i = rw (e i, count_same p q e n (i + 1))
+count_same p q e (suc n) i = grind (arith, e i, count_same p q e n (i + 1))
 
 -- before the limit means at least d before the time
 far : (d t u : ℕ) → ltb u (t + 1 - d) ≡ not (near d u t)

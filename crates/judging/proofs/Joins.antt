@@ -1,45 +1,34 @@
--- A tree of two parts, from what is answered of each.
-use Rattle.std.proofs.Common.{◌≡◌, ℕ, suc, ◌+◌, List, ◌++◌, length, ℤ, Result, ap, ◌∙◌, ap₂, arith}
+-- A tree of one or two parts, from what is answered of each.
+use Rattle.std.proofs.Common.{◌≡◌, ℕ, suc, ◌+◌, List, ◌∷◌, ◌++◌, length, sym, ap, ◌∙◌, ap₂, arith}
 use Rattle.std.proofs.lemmas.List.{length-append}
-use Rattle.rules.specs.declared.row.Junction.{Junction}
-use Rattle.rules.specs.declared.row.Operation.{Operation}
-use Rattle.rules.specs.declared.row.Relation.{Relation}
 use Rattle.rules.specs.declared.row.Row.{Row}
-use Rattle.rules.specs.Trees.{Term, reckon, Test, not_t, join, compare, term_rows, test_rows}
-use Rattle.meaning.specs.declared.verdict.Origin.{Origin}
-use Rattle.meaning.specs.declared.verdict.Verdict.{Verdict}
-use Rattle.meaning.specs.Three.{not3}
-use Rattle.meaning.specs.Terms.{Variables, reckoned, strict, compared, tested, joined}
-use Rattle.judging.specs.Answers.{TermAt, TestAt}
+use Rattle.rules.specs.Trees.{Begins}
+use Rattle.rules.proofs.Heads.{Parts}
+use Rattle.judging.specs.Answers.{PartAt}
 
 behind : (at mid next : ℕ) (xs ys : List Row) → mid ≡ at + 1 + length xs → next ≡ mid + length ys → next ≡ at + suc (length (xs ++ ys))
 behind at mid next xs ys h k = simp length-append (omega arith)
 
-module _ (η : Variables) (i at : ℕ) where
-  -- the second part, asked where the first one ended
-  second : (t u : Term) (x y : Result ℤ Origin × ℕ) → TermAt η i (at + 1) t x → TermAt η i x.1 u y → y.0 ≡ reckoned η i (at + 1 + length (term_rows t)) u
-  second t u x y h k = k.value ∙ ap (λ r. reckoned η i r u) h.next
+-- parts with the rows f of which `said` speaks
+module _ {A R : Type 0} (f : A → List Row) (said : ℕ → A → R) (all : List Row) where
+  -- the answer for whatever part stands at a row
+  abbrev pub Answers : ℕ → R × ℕ → Type 0
+  Answers at r = (t : A) → Begins all at (f t) → PartAt f said at t r
 
-  pub joined_term : (o : Operation) (t u : Term) (x y : Result ℤ Origin × ℕ) (r : Result ℤ Origin) →
-      TermAt η i (at + 1) t x → TermAt η i x.1 u y → r ≡ strict i at o x.0 y.0 → TermAt η i at (reckon o t u) (r, y.1)
-  joined_term o t u x y r h k e = record {
-    value = e ∙ ap₂ (strict i at o) h.value (second t u x y h k);
-    next = behind at x.1 y.1 (term_rows t) (term_rows u) h.next k.next;
-  }
+  module _ {C : Type 0} (at : ℕ) (build : A → A → C) (whole : C) (p : Parts f f all at build whole) (x : R × ℕ) (first : Answers (at + 1) x) where
+    -- the second part begins where the first one ended
+    pub second_part : (t : A) × Begins all x.1 (f t)
+    second_part = (p.second, rw (first p.first p.left).next p.right)
 
-  pub joined_compare : (s : Relation) (t u : Term) (x y : Result ℤ Origin × ℕ) (r : Verdict) →
-      TermAt η i (at + 1) t x → TermAt η i x.1 u y → r ≡ compared s x.0 y.0 → TestAt η i at (compare s t u) (r, y.1)
-  joined_compare s t u x y r h k e = record {
-    answer = e ∙ ap₂ (compared s) h.value (second t u x y h k);
-    next = behind at x.1 y.1 (term_rows t) (term_rows u) h.next k.next;
-  }
-
-  pub joined_test : (j : Junction) (t u : Test) (x y : Verdict × ℕ) (r : Verdict) →
-      TestAt η i (at + 1) t x → TestAt η i x.1 u y → r ≡ joined j x.0 y.0 → TestAt η i at (join j t u) (r, y.1)
-  joined_test j t u x y r h k e = record {
-    answer = e ∙ ap₂ (joined j) h.answer (k.answer ∙ ap (λ r. tested η i r u) h.next);
-    next = behind at x.1 y.1 (test_rows t) (test_rows u) h.next k.next;
-  }
-
-  pub turned : (t : Test) (x : Verdict × ℕ) (r : Verdict) → TestAt η i (at + 1) t x → r ≡ not3 x.0 → TestAt η i at (not_t t) (r, x.1)
-  turned t x r h e = record { answer = e ∙ ap not3 h.answer; next = let n = h.next in omega arith }
+    -- a tree with the rows g, of which `told` speaks, by the row d with these two parts
+    pub joined_parts : {S : Type 0} (g : C → List Row) (told : ℕ → C → S) (d : Row) (make : R → R → S) →
+        ((t u : A) → g (build t u) ≡ d ∷ (f t ++ f u)) → ((t u : A) → told at (build t u) ≡ make (said (at + 1) t) (said (at + 1 + length (f t)) u)) →
+        (y : R × ℕ) → Answers x.1 y → (r : S) → r ≡ make x.0 y.0 → PartAt g told at whole (r, y.1)
+    unfolding second_part
+    joined_parts g told d make spelt means y then r e =
+        let h = first p.first p.left in
+        let k = then p.second second_part.1 in
+        rw p.is record {
+          value = e ∙ ap₂ make h.value (k.value ∙ ap (λ r. said r p.second) h.next) ∙ sym (means p.first p.second);
+          next = rw (spelt p.first p.second) (behind at x.1 y.1 (f p.first) (f p.second) h.next k.next);
+        }

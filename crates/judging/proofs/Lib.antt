@@ -1,5 +1,4 @@
 mod Binding
-mod Coded
 mod Counting
 mod Endings
 mod Folding

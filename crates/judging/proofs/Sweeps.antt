@@ -1,5 +1,5 @@
 -- A scope judged at one possible delimiter after another comes to its verdict.
-use Rattle.std.proofs.Common.{◌≡◌, ℕ, zero, suc, ◌+◌, ◌-◌, ◌<◌, ◌≤◌, true, cond, ◌≢◌, List, [], ◌∷◌, Some, None, Option, sym, refl, ap, ◌∙◌, ap₂, inl, inr, arith}
+use Rattle.std.proofs.Common.{◌≡◌, ℕ, zero, suc, ◌+◌, ◌-◌, ◌<◌, ◌≤◌, cond, ◌≢◌, List, [], ◌∷◌, Some, None, Option, sym, refl, ap, ◌∙◌, ap₂, inl, inr, arith}
 use Rattle.std.proofs.lemmas.Bool.{cases_lt}
 use Rattle.rules.specs.declared.row.Pick.{Pick}
 use Rattle.rules.specs.declared.row.Pick.TheVariants.{First, Last, Each}
@@ -9,8 +9,8 @@ use Rattle.meaning.specs.declared.verdict.Verdict.TheVariants.{Holds, Fails, Ope
 use Rattle.meaning.specs.Three.{not3, and3, implies3, all3, possible?, filter, first_open, settle}
 use Rattle.meaning.specs.Windows.{Window, places}
 use Rattle.meaning.specs.Verdicts.{delimits, blamed_on, scoped}
-use Rattle.meaning.proofs.Places.{places_next, and_holds, and_fails, fails_and, not_fails, not_holds, apart, all_push, all_holds, fails_all}
-use Rattle.judging.specs.declared.sweep.Outcome.TheVariants.{Settled, SoFar}
+use Rattle.meaning.proofs.Places.{places_next, and_holds, fails_and, apart, all_push, all_holds, fails_all}
+use Rattle.std.specs.declared.ops.ControlFlow.TheVariants.{Break, Continue}
 use Rattle.judging.specs.Sweeps.{downto, order, doubted, closed, former, absorbed, needed, swept}
 
 -- the origin that is known already, else another
@@ -41,62 +41,34 @@ stands p (i ∷ is) = former (p i) (stands p is)
 -- An open side counts once, whatever its origin.
 
 again : (q r : Origin) (v : Verdict) → settle q (and3 (Open q) v) ≡ settle q (and3 (Open q) (and3 (Open r) v))
-again q r Holds = refl
-again q r Fails = refl
-again q r (Open s) = refl
+again q r v = grind arith
 
 alike : (q r s : Origin) (v : Verdict) → settle q (and3 (Open r) v) ≡ settle q (and3 (Open s) v)
-alike q r s Holds = refl
-alike q r s Fails = refl
-alike q r s (Open t) = refl
-
-first_doubt : (q : Origin) (d : Option Origin) → doubted Each (Open q) d ≡ Some (from d q)
-first_doubt q None = refl
-first_doubt q (Some e) = refl
+alike q r s v = grind arith
 
 -- The first open test is behind a place whose test is yes or no.
 
 open_behind : (f : ℕ → Verdict) (x : ℕ) (xs : List ℕ) → f x ≡ Holds → first_open (x ∷ xs) f ≡ first_open xs f
-open_behind f x xs e = rw e
+open_behind f x xs e = grind arith
 
 open_here : (f : ℕ → Verdict) (x : ℕ) (xs : List ℕ) (q : Origin) → f x ≡ Open q → first_open (x ∷ xs) f ≡ q
-open_here f x xs q e = rw e
+open_here f x xs q e = grind arith
 
 -- Each.
 module _ (f p : ℕ → Verdict) where
   -- once something open stands, only a certain delimiter where p fails changes that
   each_open : (d : Option Origin) (q : Origin) (xs : List ℕ) → swept Each f p d (Open q) xs ≡ settle q (and3 (Open q) (every f p xs))
   each_open d q [] = refl
-  each_open d q (x ∷ xs) = go (f x) refl (p x) refl (λ d. each_open d q xs)
-    where
-      go : (v : Verdict) → f x ≡ v → (u : Verdict) → p x ≡ u →
-          ((d : Option Origin) → swept Each f p d (Open q) xs ≡ settle q (and3 (Open q) (every f p xs))) →
-          swept Each f p d (Open q) (x ∷ xs) ≡ settle q (and3 (Open q) (every f p (x ∷ xs)))
-      go Fails e u k h = rw e (h d)
-      go Holds e Holds k h = simp (e, k) (h d)
-      go Holds e Fails k h = rw (e, k)
-      go Holds e (Open r) k h = simp (e, k) (h d ∙ again q r (every f p xs))
-      go (Open t) e Holds k h = rw (e, k) (h d)
-      go (Open t) e Fails k h = rw (e, k) (h d ∙ again q t (every f p xs))
-      go (Open t) e (Open r) k h = rw (e, k) (h d ∙ again q t (every f p xs))
+  each_open d q (x ∷ xs) =
+      let h : (d : Option Origin) (q : Origin) → swept Each f p d (Open q) xs ≡ settle q (and3 (Open q) (every f p xs)) = λ d q. each_open d q xs in
+      grind (arith, h (doubted Each (f x) d) q, h d q, again)
 
   each_sweeps : (d : Option Origin) (xs : List ℕ) (o : Origin) → o ≡ from d (first_open (among f xs) f) →
       swept Each f p d Holds xs ≡ settle (blamed_on o (among f xs) p) (every f p xs)
   each_sweeps d [] o z = refl
-  each_sweeps d (x ∷ xs) o z = go (f x) refl (p x) refl (λ d. each_sweeps d xs)
-    where
-      go : (v : Verdict) → f x ≡ v → (u : Verdict) → p x ≡ u →
-          ((d : Option Origin) (o : Origin) → o ≡ from d (first_open (among f xs) f) → swept Each f p d Holds xs ≡ settle (blamed_on o (among f xs) p) (every f p xs)) →
-          swept Each f p d Holds (x ∷ xs) ≡ settle (blamed_on o (among f (x ∷ xs)) p) (every f p (x ∷ xs))
-      go Fails e u k h = rw e (h d o (rw e at z))
-      go Holds e Holds k h = rw (e, k, e) (h d o (rw (e, open_behind f x (among f xs) e) at z))
-      go Holds e Fails k h = rw (e, k)
-      go Holds e (Open r) k h = rw (e, k, e) (each_open d r xs)
-      go (Open t) e Holds k h = rw (e, k, e, first_doubt t d) (h (Some (from d t)) o (rw (e, open_here f x (among f xs) t e) at z))
-      go (Open t) e Fails k h =
-          let y : o ≡ from d t = rw (e, open_here f x (among f xs) t e) at z in
-          rw (e, k, e, first_doubt t d, ← y) (each_open _ o xs ∙ alike _ _ t (every f p xs))
-      go (Open t) e (Open r) k h = rw (e, k, e, first_doubt t d) (each_open _ r xs ∙ alike _ _ t (every f p xs))
+  each_sweeps d (x ∷ xs) o z =
+      let h : (d : Option Origin) → o ≡ from d (first_open (among f xs) f) → swept Each f p d Holds xs ≡ settle (blamed_on o (among f xs) p) (every f p xs) = λ d. each_sweeps d xs o in
+      grind (arith, h d, h (doubted Each (f x) d), each_open, alike, open_behind f x, open_here f x)
 
 -- Places, one by one: the lowest place is one of the possible ones or it is not, as it delimits.
 module _ (g p : ℕ → Verdict) (b : ℕ) where
@@ -104,9 +76,7 @@ module _ (g p : ℕ → Verdict) (b : ℕ) where
   skip : (n i k : ℕ) → k ≡ i + n → k ≤ b → ((j : ℕ) → i ≤ j → j < k → g j ≡ Fails) →
       (among g (places i b) ≡ among g (places k b)) × (every g p (places i b) ≡ every g p (places k b))
   skip zero i k z l h = let y : i ≡ k = omega arith in rw y (refl, refl)
-  skip (suc n) i k z l h =
-      let r = skip n (i + 1) k (omega arith) l (λ j m. h j (omega arith)) in
-      rw (places_next i b (omega arith), h i (omega arith) (omega arith)) r
+  skip (suc n) i k z l h = grind (arith, places_next i b, h i, skip n (i + 1) k (omega arith) l (λ j m. h j (omega arith)))
 
   -- if none does, nothing is left
   spent : (i : ℕ) → i ≤ b → ((j : ℕ) → i ≤ j → j < b → g j ≡ Fails) → (among g (places i b) ≡ []) × (every g p (places i b) ≡ Holds)
@@ -114,11 +84,7 @@ module _ (g p : ℕ → Verdict) (b : ℕ) where
 
   -- a scope that is open or holds does not fail with one more open place
   keeps_open : (o q t r : Origin) (s v : Verdict) → settle o v ≡ closed (Some q) s → settle r (and3 (Open t) v) ≡ Open r
-  keeps_open o q t r s Holds e = refl
-  keeps_open o q t r Holds Fails e = cc
-  keeps_open o q t r Fails Fails e = cc
-  keeps_open o q t r (Open u) Fails e = cc
-  keeps_open o q t r s (Open u) e = refl
+  keeps_open o q t r s v e = grind arith
 
   -- where no place is sure to delimit, the first place where p does not hold tells the verdict
   abbrev Unsure : Origin → ℕ → Type 0
@@ -126,16 +92,7 @@ module _ (g p : ℕ → Verdict) (b : ℕ) where
 
   unsure : (o : Origin) (n i : ℕ) → i + n ≡ b → ((j : ℕ) → i ≤ j → j < b → g j ≢ Holds) → Unsure o i
   unsure o zero i z h = let y : b - i ≡ 0 = omega arith in rw y
-  unsure o (suc n) i z h =
-      rw (places_next i b (omega arith)) (go (g i) refl (p i) refl (unsure o n (i + 1) (omega arith) (λ j m. h j (omega arith))))
-    where
-      go : (v : Verdict) → g i ≡ v → (u : Verdict) → p i ≡ u → Unsure o (i + 1) →
-          settle (blamed_on o (among g (i ∷ places (i + 1) b)) p) (every g p (i ∷ places (i + 1) b)) ≡ closed (Some o) (stands p (among g (i ∷ places (i + 1) b)))
-      go Holds e u k r = absurd (h i (omega arith) (omega arith) e)
-      go Fails e u k r = rw e r
-      go (Open t) e Holds k r = rw (e, k) r
-      go (Open t) e Fails k r = rw (e, k) (keeps_open _ o t _ _ _ r)
-      go (Open t) e (Open q) k r = rw (e, k) (keeps_open _ o t _ _ _ r)
+  unsure o (suc n) i z h = grind (arith, places_next i b, unsure o n (i + 1), keeps_open)
 
   -- a lone delimiter, which is certain, hands over what is judged there
   lone : (f : ℕ → Verdict) (i : ℕ) → i < b → g i ≡ Holds → ((j : ℕ) → i < j → j < b → g j ≡ Fails) → closed None (p i) ≡ ruled g f p None (places i b)
@@ -159,26 +116,17 @@ module _ (g p : ℕ → Verdict) (b : ℕ) where
 -- Verdicts that do not fail.
 
 and_open : (q : Origin) (v : Verdict) → v ≢ Fails → and3 (Open q) v ≡ Open q
-and_open q Holds h = refl
-and_open q Fails h = absurd (h refl)
-and_open q (Open r) h = refl
-
-is_possible : (v : Verdict) → v ≢ Fails → possible? v ≡ true
-is_possible Holds h = refl
-is_possible Fails h = absurd (h refl)
-is_possible (Open q) h = refl
+and_open q v h = grind arith
 
 open_not : {v : Verdict} {q : Origin} → v ≡ Open q → (v ≢ Holds) × (v ≢ Fails)
-open_not e = ((λ h. let z : ◌≡◌ {A = ℕ} 0 1 = cc in omega arith), λ h. let z : ◌≡◌ {A = ℕ} 0 1 = cc in omega arith)
+open_not e = ((λ h. cc), λ h. cc)
 
 former_last : (v : Verdict) → former v Holds ≡ v
-former_last Holds = refl
-former_last Fails = refl
-former_last (Open q) = refl
+former_last v = grind arith
 
 -- one more place is tried, by its test v, what is judged there and what the places behind it make of that
 abbrev onward : Pick → (v u : Verdict) → Option Origin → Verdict → (Option Origin → Verdict → Verdict) → Verdict
-onward o v u d s k = cond (needed o s v) (elim (absorbed o v (doubted o v d) s u) [ Settled r ↦ r | SoFar t ↦ k (doubted o v d) t ]) (k d s)
+onward o v u d s k = cond (needed o s v) (elim (absorbed o v (doubted o v d) s u) [ Break r ↦ r | Continue t ↦ k (doubted o v d) t ]) (k d s)
 
 tried : (o : Pick) (f p : ℕ → Verdict) (d : Option Origin) (s : Verdict) (x : ℕ) (xs : List ℕ) (v : Verdict) → f x ≡ v →
     swept o f p d s (x ∷ xs) ≡ onward o v (p x) d s (λ d s. swept o f p d s xs)
@@ -198,35 +146,20 @@ module _ (w : Window) (f p : ℕ → Verdict) where
 
   -- past a yes no place delimits
   past : (i : ℕ) → w.0 ≤ i → f i ≡ Holds → (j : ℕ) → i < j → first j ≡ Fails
-  past i l e j m = fails_and (f j) (unseen j) (inr (fails_all (no f) w.0 j i l m (ap not3 e)))
+  past i l e j m = grind (arith, fails_and (f j) (unseen j), fails_all (no f) w.0 j i)
 
   -- from an open test on no place is sure to
   first_unsure : (i : ℕ) (q : Origin) → w.0 ≤ i → f i ≡ Open q → (j : ℕ) → i ≤ j → first j ≢ Holds
-  first_unsure i q l e j m h =
-      let r = and_holds (f j) (unseen j) h in
-      elim (cases_lt i j) [
-        | inl k ↦ (open_not (ap not3 e)).0 (all_holds (no f) w.0 j r.1 i l k)
-        | inr k ↦ (open_not e).0 (let z : i ≡ j = omega arith in rw z r.0)
-      ]
+  first_unsure i q l e j m h = grind (arith, and_holds (f j) (unseen j), all_holds (no f) w.0 j)
 
   -- a test other than yes leaves that as it is
   still : (i : ℕ) → w.0 ≤ i → f i ≢ Holds → unseen i ≢ Fails → unseen (i + 1) ≢ Fails
-  still i l k h y = elim (and_fails (unseen i) (not3 (f i)) (rw (all_push (no f) w.0 i l) at y)) [ inl c ↦ h c | inr c ↦ k (not_fails (f i) c) ]
+  still i l k h y = grind (arith, all_push (no f) w.0 i)
 
   first_doubted : (n i : ℕ) (e : Origin) → i + n ≡ w.1 → w.0 ≤ i → unseen i ≢ Fails →
       swept First f p (Some e) Holds (places i w.1) ≡ closed (Some e) (stands p (among first (places i w.1)))
   first_doubted zero i e z l h = let y : w.1 - i ≡ 0 = omega arith in rw y
-  first_doubted (suc n) i e z l h =
-      rw (places_next i w.1 (omega arith)) (go (f i) refl (p i) refl (λ h. first_doubted n (i + 1) e (omega arith) (omega arith) h))
-    where
-      go : (v : Verdict) → f i ≡ v → (u : Verdict) → p i ≡ u →
-          (unseen (i + 1) ≢ Fails → swept First f p (Some e) Holds (places (i + 1) w.1) ≡ closed (Some e) (stands p (among first (places (i + 1) w.1)))) →
-          swept First f p (Some e) Holds (i ∷ places (i + 1) w.1) ≡ closed (Some e) (stands p (among first (i ∷ places (i + 1) w.1)))
-      go Holds x u k r = rw (x, is_possible (unseen i) h, (spent first p w.1 (i + 1) (omega arith) (λ j m c. past i l x j (omega arith))).0, former_last (p i))
-      go Fails x u k r = rw x (r (still i l (λ y. apart y x) h))
-      go (Open t) x Holds k r = rw (x, and_open t (unseen i) h, k, x) (r (still i l (open_not x).0 h))
-      go (Open t) x Fails k r = rw (x, and_open t (unseen i) h, k)
-      go (Open t) x (Open q) k r = rw (x, and_open t (unseen i) h, k)
+  first_doubted (suc n) i e z l h = grind (arith, places_next i w.1, first_doubted n (i + 1) e, still i, spent first p w.1 (i + 1), past i, former_last, and_open)
 
   first_sure : (n i : ℕ) → i + n ≡ w.1 → w.0 ≤ i → unseen i ≡ Holds → swept First f p None Holds (places i w.1) ≡ ruled first f p None (places i w.1)
   first_sure zero i z l h = let y : w.1 - i ≡ 0 = omega arith in rw y
@@ -262,7 +195,7 @@ module _ (w : Window) (f p : ℕ → Verdict) where
 
   -- before a yes no place delimits
   before : (i : ℕ) → i < w.1 → f i ≡ Holds → (j : ℕ) → j < i → last j ≡ Fails
-  before i l e j m = fails_and (f j) (unseen_from (j + 1)) (inr (fails_all (no f) (j + 1) w.1 i (omega arith) l (ap not3 e)))
+  before i l e j m = grind (arith, fails_and (f j) (unseen_from (j + 1)), fails_all (no f) (j + 1) w.1 i)
 
   -- so the verdict is that over the places from the yes on
   from_yes : (i : ℕ) → w.0 ≤ i → i < w.1 → f i ≡ Holds → ruled last f p None (places i w.1) ≡ ruled last f p None (places w.0 w.1)
@@ -272,16 +205,11 @@ module _ (w : Window) (f p : ℕ → Verdict) where
 
   -- where some test is open and none is yes, no place is sure to delimit, nor the one before
   last_unsure : (i : ℕ) (q : Origin) → unseen_from i ≡ Open q → (j : ℕ) → i ≤ j + 1 → j < w.1 → last j ≢ Holds
-  last_unsure i q e j l m h =
-      let r = and_holds (f j) (unseen_from (j + 1)) h in
-      elim (cases_lt j i) [
-        | inl k ↦ (open_not e).0 (let z : i ≡ j + 1 = omega arith in rw z r.1)
-        | inr k ↦ (open_not e).1 (fails_all (no f) i w.1 j k m (ap not3 r.0))
-      ]
+  last_unsure i q e j l m h = grind (arith, and_holds (f j) (unseen_from (j + 1)), fails_all (no f) i w.1 j)
 
   -- where every test is no, no place delimits
   quiet : (i : ℕ) → unseen_from i ≡ Holds → (j : ℕ) → i ≤ j → j < w.1 → last j ≡ Fails
-  quiet i e j l m = fails_and (f j) (unseen_from (j + 1)) (inl (not_holds (f j) (all_holds (no f) i w.1 e j l m)))
+  quiet i e j l m = grind (arith, fails_and (f j) (unseen_from (j + 1)), all_holds (no f) i w.1)
 
   -- what is left is tried, and the verdict comes out
   abbrev Ends : Option Origin → Verdict → ℕ → Type 0

@@ -1,9 +1,8 @@
 -- Each turn of a judging leaves what is answered in the end, and comes nearer to it.
-use Rattle.std.proofs.Common.{◌≡◌, ℕ, suc, ◌+◌, ◌-◌, ◌*◌, ◌<◌, ◌≤◌, Bool, true, false, cond, eqb, List, [], ◌∷◌, length, get_or, take, None, Option, sym, refl, ap, ◌∙◌, subst, ap₂, mul-le-mul_right, add-mul, one-mul, arith}
+use Rattle.std.proofs.Common.{◌≡◌, ℕ, suc, ◌+◌, ◌-◌, ◌*◌, ◌<◌, ◌≤◌, Bool, true, false, cond, eqb, List, ◌∷◌, length, get_or, take, None, Option, sym, refl, ap, ◌∙◌, subst, ap₂, mul-le-mul_right, add-mul, one-mul, arith}
 use Rattle.std.proofs.lemmas.List.{take_all, length_push}
 use Rattle.std.proofs.lemmas.Bool.{and_parts, ltb-true}
 use Rattle.logs.specs.declared.event.Event.{Event}
-use Rattle.logs.specs.declared.event.Value.{Value}
 use Rattle.logs.specs.Events.{event_at}
 use Rattle.logs.specs.Lawful.{time_at}
 use Rattle.rules.specs.declared.row.Connective.{Connective}
@@ -15,35 +14,39 @@ use Rattle.rules.specs.declared.row.Side.TheVariants.{After, Before, Given}
 use Rattle.rules.specs.declared.known.Sort.TheVariants as sort
 use Rattle.rules.specs.Trees.{Test, Property, not_p, connect, occurrence, absence, scope, quantify, rows, test_rows, reach_of, Begins}
 use Rattle.rules.specs.Forest.{property_at, test_at}
-use Rattle.rules.specs.Wanted.{Sorts, room_in, ◌⊕◌ as ◌with◌}
+use Rattle.rules.specs.Wanted.{Sorts, ◌⊕◌ as ◌with◌}
 use Rattle.rules.specs.Scoped.{scoped as well_scoped}
 use Rattle.rules.proofs.Fronts.{front_row}
+use Rattle.rules.proofs.Heads.{property_by, PropertyBy, property_within, test_within}
 use Rattle.rules.proofs.Parts.{property_is, test_is, test_begins}
 use Rattle.meaning.specs.declared.verdict.Origin.{Origin}
 use Rattle.meaning.specs.declared.verdict.Variable.TheVariants as var
 use Rattle.meaning.specs.declared.verdict.Verdict.{Verdict}
-use Rattle.meaning.specs.declared.verdict.Verdict.TheVariants.{Holds}
-use Rattle.meaning.specs.Three.{not3, count}
+use Rattle.meaning.specs.declared.verdict.Verdict.TheVariants.{Holds, Fails}
+use Rattle.meaning.specs.Three.{count}
 use Rattle.meaning.specs.Terms.{Variables, ◌⊕◌, asked, bound, event_in}
 use Rattle.meaning.specs.Windows.{Window, window, places, near}
 use Rattle.meaning.specs.Verdicts.{connected, quantified, scoped, judged}
-use Rattle.judging.specs.declared.sweep.Outcome.{Outcome}
-use Rattle.judging.specs.declared.sweep.Outcome.TheVariants.{Settled, SoFar}
+use Rattle.std.specs.declared.ops.ControlFlow.{ControlFlow}
+use Rattle.std.specs.declared.ops.ControlFlow.TheVariants.{Break, Continue}
 use Rattle.judging.specs.declared.working.Found.{Found}
 use Rattle.judging.specs.declared.working.JudgingRow.{JudgingRow}
-use Rattle.judging.specs.declared.working.JudgingRow.TheVariants.{Negation, Left, Values, Places}
+use Rattle.judging.specs.declared.working.JudgingRow.TheVariants.{Left, Values, Places}
 use Rattle.judging.specs.declared.working.PlacesRow.{PlacesRow}
 use Rattle.judging.specs.declared.working.Quantifying.{Quantifying}
+use Rattle.judging.specs.declared.working.ValuesRow.{ValuesRow}
 use Rattle.judging.specs.declared.working.Scoping.{Scoping}
 use Rattle.judging.specs.declared.working.Turn.{Turn}
-use Rattle.judging.specs.declared.working.Turn.TheVariants.{Ask, Told}
+use Rattle.judging.specs.declared.working.Turn.TheVariants.{Ask}
 use Rattle.judging.specs.Seeking.{delimiter_test, FoundAt}
 use Rattle.meaning.specs.Terms.{coded_from}
-use Rattle.judging.specs.Sweeps.{order, doubted, closed, absorbed, needed, swept}
-use Rattle.judging.specs.Machine.{start, combined, judged_at, inner, sweeping, continued, gathering, resume, worth, steps, steps_at, pending, turns_left, depth_of, Standing, ValuesReady, PlacesReady, RightReady, Waits, Asking, Onward}
+use Rattle.judging.specs.Sweeps.{order, doubted, absorbed, needed, swept}
+use Rattle.judging.specs.Machine.{start, judged_at, inner, sweeping, continued, gathering, resume, worth, steps, steps_at, pending, turns_left, depth_of, Standing, ValuesReady, PlacesReady, RightReady, Waits, Asking, Onward}
+use Rattle.judging.specs.Extents.{Ends}
 use Rattle.judging.proofs.Binding.{forgotten}
 use Rattle.judging.proofs.Counting.{count_few, places_many}
-use Rattle.judging.proofs.Folding.{combined_start, combined_none, combined_next}
+use Rattle.judging.proofs.Endings.{test_part, property_part, part_place}
+use Rattle.judging.proofs.Folding.{combined_start}
 use Rattle.judging.proofs.Sweeps.{sweeps}
 
 -- no property begins with a row of another kind
@@ -103,79 +106,20 @@ window_inside Given t d i w h = omega arith
 
 -- the first of the places still to be tried, where its test is other than no
 sweep_on : (o : Pick) (f p : ℕ → Verdict) (d : Option Origin) (s : Verdict) (i : ℕ) (is : List ℕ) (v : Verdict) → v ≡ f i → needed o s v ≡ true →
-    swept o f p d s (i ∷ is) ≡ elim (absorbed o v (doubted o v d) s (p i)) [ Settled u ↦ u | SoFar u ↦ swept o f p (doubted o v d) u is ]
+    swept o f p d s (i ∷ is) ≡ elim (absorbed o v (doubted o v d) s (p i)) [ Break u ↦ u | Continue u ↦ swept o f p (doubted o v d) u is ]
 sweep_on o f p d s i is v e h =
-    ap (λ x. cond (needed o s x) (elim (absorbed o x (doubted o x d) s (p i)) [ Settled u ↦ u | SoFar u ↦ swept o f p (doubted o x d) u is ]) (swept o f p d s is)) (sym e)
-    ∙ ap (λ b. cond b (elim (absorbed o v (doubted o v d) s (p i)) [ Settled u ↦ u | SoFar u ↦ swept o f p (doubted o v d) u is ]) (swept o f p d s is)) h
+    ap (λ x. cond (needed o s x) (elim (absorbed o x (doubted o x d) s (p i)) [ Break u ↦ u | Continue u ↦ swept o f p (doubted o x d) u is ]) (swept o f p d s is)) (sym e)
+    ∙ ap (λ b. cond b (elim (absorbed o v (doubted o v d) s (p i)) [ Break u ↦ u | Continue u ↦ swept o f p (doubted o v d) u is ]) (swept o f p d s is)) h
 
 -- a scope at the delimiter that was found
 abbrev pub tried : Scoping → Window → (depth : ℕ) → Found → Option Origin → Verdict → PlacesRow
 tried sc w d x low u = record { scoping = sc; window = w; depth = d; left = x.left; test = x.test; lowest = low; verdict = u }
 
 module _ (es : List Event) (rs : List Row) (room : ℕ) where
-  goes_on : (sc : Scoping) (η : Variables) (w : Window) (d : Option Origin) (left : Window) (x : Outcome) →
-      elim x [ Settled u ↦ u | SoFar u ↦ swept sc.pick (delimiter_test es rs sc η) (inner es rs sc η w) d u (order sc.pick left) ] ≡ continued es rs sc η w d left x
-  goes_on sc η w d left (Settled u) = refl
-  goes_on sc η w d left (SoFar u) = refl
-
-  -- the same turn, as the code has it
-  pub onto : {η θ : Variables} {t u : Turn} {s r : List JudgingRow} {v : Verdict} {n : ℕ} → Onward es rs room η t s v n → θ ≡ η → u ≡ t → r ≡ s → Onward es rs room θ u r v n
-  onto {η} {θ} {t} {u} {s} {r} {v} {n} o a b c =
-      subst (λ x. Onward es rs room x u r v n) (sym a) (subst (λ x. Onward es rs room η x r v n) (sym b) (subst (λ x. Onward es rs room η t x v n) (sym c) o))
-
-  pub reworded : {η : Variables} {t : Turn} {s : List JudgingRow} {v w : Verdict} {m n : ℕ} → Onward es rs room η t s v m → v ≡ w → m ≤ n → Onward es rs room η t s w n
-  reworded o e h = record { valid = o.valid; same = o.same ∙ e; nearer = let a = o.nearer in omega arith }
-
-  -- At a row.
-  module _ (η : Variables) (at : ℕ) (w : Window) (s : List JudgingRow) (ok : Asking es rs room η at w s) where
-    abbrev At : Variables → Turn → List JudgingRow → Type 0
-    At θ t r = Onward es rs room θ t r (worth es rs η (Ask at w) s) (turns_left rs (Ask at w) s)
-
-    pub on_not : (q : Property) → property_at rs at ≡ not_p q → Begins rs (at + 1) (rows q) → At η (Ask (at + 1) w) (Negation ∷ s)
-    on_not q e b =
-        let k = ok.stands in
-        let i = property_is rs (at + 1) q b in
-        let deep = subst (λ p. length s + depth_of p ≤ room) e k.deep in
-        let before : steps_at rs at ≡ 2 + steps q = ap steps e in
-        let after : steps_at rs (at + 1) ≡ steps q = ap steps i in
-        record {
-          valid = record {
-            stands = standing rs (length η) (at + 1) (suc (length s)) room q b k.sorts k.many (subst (λ p. well_scoped k.sorts p ≡ true) e k.fits) (omega arith);
-            inside = ok.inside;
-            waits = ok.waits;
-          };
-          same = ap (λ p. resume es rs η s (not3 (judged es η w (at + 1) p))) i ∙ sym (ap (λ p. resume es rs η s (judged es η w at p)) e);
-          nearer = omega arith;
-        }
-
-    pub on_connect : (c : Connective) (p q : Property) (right : ℕ) → property_at rs at ≡ connect c p q → Begins rs (at + 1) (rows p) → Begins rs right (rows q) → right ≡ at + 1 + length (rows p) →
-        At η (Ask (at + 1) w) (Left (record { connective = c; right = right; window = w; depth = length η }) ∷ s)
-    on_connect c p q right e b d place =
-        let k = ok.stands in
-        let i = property_is rs (at + 1) p b in
-        let j = property_is rs right q d in
-        let deep = subst (λ x. length s + depth_of x ≤ room) e k.deep in
-        let fits = and_parts _ _ (subst (λ x. well_scoped k.sorts x ≡ true) e k.fits) in
-        let before : steps_at rs at ≡ 3 + (steps p + steps q) = ap steps e in
-        let first : steps_at rs (at + 1) ≡ steps p = ap steps i in
-        let second : steps_at rs right ≡ steps q = ap steps j in
-        record {
-          valid = record {
-            stands = standing rs (length η) (at + 1) (suc (length s)) room p b k.sorts k.many fits.0 (omega arith);
-            inside = ok.inside;
-            waits = subst (λ θ. RightReady es rs room (length θ) (length s) right w × Waits es rs room θ s) (sym (kept η))
-                (record { side = standing rs (length η) right (length s + 1) room q d k.sorts k.many fits.1 (omega arith); inside = ok.inside }, ok.waits);
-          };
-          same = ap (λ θ. resume es rs θ s (connected c (judged_at es rs η w (at + 1)) (judged_at es rs θ w right))) (kept η)
-              ∙ ap₂ (λ x y. resume es rs η s (connected c (judged es η w (at + 1) x) (judged es η w right y))) i j
-              ∙ ap (λ r. resume es rs η s (connected c (judged es η w (at + 1) p) (judged es η w r q))) place
-              ∙ sym (ap (λ x. resume es rs η s (judged es η w at x)) e);
-          nearer = omega arith;
-        }
-
-    -- a property that is judged at once
-    pub on_leaf : (v : Verdict) → v ≡ judged_at es rs η w at → 0 < steps_at rs at → At η (Told v) s
-    on_leaf v e h = record { valid = ok.waits; same = ap (resume es rs η s) e; nearer = omega arith }
+  goes_on : (sc : Scoping) (η : Variables) (w : Window) (d : Option Origin) (left : Window) (x : ControlFlow Verdict Verdict) →
+      elim x [ Break u ↦ u | Continue u ↦ swept sc.pick (delimiter_test es rs sc η) (inner es rs sc η w) d u (order sc.pick left) ] ≡ continued es rs sc η w d left x
+  goes_on sc η w d left (Break u) = refl
+  goes_on sc η w d left (Continue u) = refl
 
   -- At the places of a scope that are still to be tried.
   module _ (η : Variables) (s : List JudgingRow) (sc : Scoping) (w left : Window) (low : Option Origin) (u : Verdict)
@@ -183,9 +127,6 @@ module _ (es : List Event) (rs : List Row) (room : ℕ) where
     abbrev pub Trying : Variables → Turn → List JudgingRow → Type 0
     Trying θ t r =
         Onward es rs room θ t r (resume es rs η s (sweeping es rs sc η w low u left)) (1 + ((left.1 - left.0) * (1 + steps_at rs sc.body) + pending rs s))
-
-    pub none_left : sweeping es rs sc η w low u left ≡ closed low u → Trying η (Told (closed low u)) s
-    none_left e = record { valid = waits; same = ap (resume es rs η s) (sym e); nearer = omega arith }
 
     pub next_found : (x : Found) (θ : Variables) → FoundAt es rs sc u left η θ x →
         Trying θ (Ask sc.body (window sc.side (time_at es) sc.duration x.place w)) (Places (tried sc w (length η) x (doubted sc.pick x.test low) u) ∷ s)
@@ -216,121 +157,138 @@ module _ (es : List Event) (rs : List Row) (room : ℕ) where
               ∙ ap (resume es rs η s) (sym (goes_on sc η w d x.left (absorbed o x.test d u (p x.place))) ∙ sym (sweep_on o f p low u x.place (order o x.left) x.test k.test k.counts) ∙ sym (k.same p low));
           nearer = omega arith;
         } in
-        onto next k.bound refl refl
+        rw k.bound next
 
-  -- At the values of a quantifier that are still to come.
-  module _ (η : Variables) (s : List JudgingRow) (q : Quantifying) (w : Window) (k : ℕ) (u : Verdict)
-      (ready : ValuesReady es rs room (length η) (length s) q w) (waits : Waits es rs room η s) where
-    abbrev pub Gathering : Variables → Turn → List JudgingRow → Type 0
-    Gathering θ t r = Onward es rs room θ t r (resume es rs η s (gathering es rs q η w u k)) (1 + ((4 - k) * (1 + steps_at rs q.body) + pending rs s))
+  -- At a row of a connective, a scope or a quantifier.
+  module _ (η : Variables) (at : ℕ) (w : Window) (s : List JudgingRow) (ok : Asking es rs room η at w s) (d : Row) where
+    abbrev From : (room : ℕ) → Variables → Turn → List JudgingRow → Type 0
+    From n θ t r = Onward es rs n θ t r (worth es rs η (Ask at w) s) (turns_left rs (Ask at w) s)
 
-    abbrev values : ℕ → List Value
-    values j = coded_from q.code (event_in (bound η q.variable)) j
+    module _ {c : Connective} (is : get_or rs at d ≡ Connect c) {ends : List ℕ} (ended : Ends rs ends) where
+      pub from_connect : From room η (Ask (at + 1) w) (Left (record { connective = c; right = get_or ends (at + 1) 0; window = w; depth = length η }) ∷ s)
+      from_connect =
+          let k = ok.stands in
+          let b = property_by rs at d _ is _ k.begins in
+          let right = get_or ends (at + 1) 0 in
+          let place = part_place rs ends (at + 1) (rows b.first) ended (property_part b.first) b.left (property_within rs (at + 1) b.first b.left) in
+          let second = subst (λ i. Begins rs i (rows b.second)) (sym place) b.right in
+          let i = property_is rs (at + 1) b.first b.left in
+          let j = property_is rs right b.second second in
+          let deep = subst (λ x. length s + depth_of x ≤ room) b.is k.deep in
+          let fits = and_parts _ _ (subst (λ x. well_scoped k.sorts x ≡ true) b.is k.fits) in
+          let before : steps_at rs at ≡ 3 + (steps b.first + steps b.second) = ap steps b.is in
+          let one : steps_at rs (at + 1) ≡ steps b.first = ap steps i in
+          let two : steps_at rs right ≡ steps b.second = ap steps j in
+          record {
+            valid = record {
+              stands = standing rs (length η) (at + 1) (suc (length s)) room b.first b.left k.sorts k.many fits.0 (omega arith);
+              inside = ok.inside;
+              waits = subst (λ θ. RightReady es rs room (length θ) (length s) right w × Waits es rs room θ s) (sym (kept η))
+                  (record { side = standing rs (length η) right (length s + 1) room b.second second k.sorts k.many fits.1 (omega arith); inside = ok.inside }, ok.waits);
+            };
+            same = ap (λ θ. resume es rs θ s (connected c (judged_at es rs η w (at + 1)) (judged_at es rs θ w right))) (kept η)
+                ∙ ap₂ (λ x y. resume es rs η s (connected c (judged es η w (at + 1) x) (judged es η w right y))) i j
+                ∙ ap (λ r. resume es rs η s (connected c (judged es η w (at + 1) b.first) (judged es η w r b.second))) place
+                ∙ sym (ap (λ x. resume es rs η s (judged es η w at x)) b.is);
+            nearer = omega arith;
+          }
 
-    abbrev each : Value → Verdict
-    each v = judged_at es rs (η ⊕ var.Number v) w q.body
+    module _ {sc : Scoping} {x : PlacesRow} (new : x ≡ record { scoping = sc; window = w; depth = 0; left = w; test = Fails; lowest = None; verdict = Holds })
+        (is : get_or rs at d ≡ Scope sc.side sc.pick sc.name sc.duration) {ends : List ℕ} (ended : Ends rs ends) (test_next : sc.test ≡ at + 1) (body_behind : sc.body ≡ get_or ends (at + 1) 0) where
+      abbrev scope_parts : PropertyBy rs at (Scope sc.side sc.pick sc.name sc.duration) (property_at rs at)
+      scope_parts = property_by rs at d _ is _ ok.stands.begins
 
-    pub no_value : values k ≡ [] → Gathering η (Told u) s
-    no_value e = record {
-      valid = waits;
-      same = ap (resume es rs η s) (sym (ap (λ vs. combined q.quantifier u (quantified q.quantifier vs each)) e ∙ combined_none q.quantifier u each));
-      nearer = omega arith;
-    }
+      abbrev scope_test : Test
+      scope_test = scope_parts.first
 
-    pub next_value : (j : ℕ) (v : Value) → k ≤ j → j < 4 → values k ≡ v ∷ values (j + 1) → Gathering (η ⊕ var.Number v) (Ask q.body w) (Values (record { quantifying = q; window = w; depth = length η; next = j + 1; verdict = u }) ∷ s)
-    next_value j v h l e =
-        let x = var.Number v in
-        let b = ready.body in
-        let long : length (η ⊕ x) ≡ length η + 1 = length_push η x in
-        let one : length s + 1 ≡ suc (length s) = omega arith in
-        let cost = paid (4 - (j + 1)) (4 - k) (steps_at rs q.body) (omega arith) in
-        record {
-          valid = record {
-            stands = subst (λ m. Standing rs m q.body (suc (length s)) room) (sym long) (subst (λ n. Standing rs (length η + 1) q.body n room) one b);
-            inside = ready.inside;
-            waits = subst (λ ζ. ValuesReady es rs room (length ζ) (length s) q w × Waits es rs room ζ s) (sym (forgotten η x)) (ready, waits);
-          };
-          same = ap (λ ζ. resume es rs ζ s (gathering es rs q ζ w (combined q.quantifier u (each v)) (j + 1))) (forgotten η x)
-              ∙ ap (resume es rs η s) (combined_next q.quantifier u v (values (j + 1)) each ∙ ap (λ vs. combined q.quantifier u (quantified q.quantifier vs each)) (sym e));
-          nearer = omega arith;
-        }
+      abbrev scope_body : Property
+      scope_body = scope_parts.second
 
-  -- At a row of a scope or a quantifier.
-  module _ (η : Variables) (at : ℕ) (w : Window) (s : List JudgingRow) (ok : Asking es rs room η at w s) where
-    abbrev From : Variables → Turn → List JudgingRow → Type 0
-    From θ t r = Onward es rs room θ t r (worth es rs η (Ask at w) s) (turns_left rs (Ask at w) s)
+      body_at : sc.body ≡ at + 1 + length (test_rows scope_test)
+      body_at = body_behind ∙ part_place rs ends (at + 1) (test_rows scope_test) ended (test_part scope_test) scope_parts.left (test_within rs (at + 1) scope_test scope_parts.left)
 
-    -- a row that binds finds room for its variable
-    pub binds : (p : Property) → property_at rs at ≡ p → ((sorts : Sorts) → well_scoped sorts p ≡ true → room_in sorts ≡ true) → length η < 8
-    binds p e k =
-        let m = ok.stands.many in
-        let h : length ok.stands.sorts < 8 = ltb-true (length ok.stands.sorts) 8 (k ok.stands.sorts (subst (λ x. well_scoped ok.stands.sorts x ≡ true) e ok.stands.fits)) in
-        omega arith
+      body_begins : Begins rs sc.body (rows scope_body)
+      body_begins = subst (λ i. Begins rs i (rows scope_body)) (sym body_at) scope_parts.right
 
-    module _ (sc : Scoping) (t : Test) (p : Property) (is : property_at rs at ≡ scope sc.side sc.pick sc.name sc.duration t p)
-        (first : Begins rs (at + 1) (test_rows t)) (second : Begins rs sc.body (rows p)) (test_here : sc.test ≡ at + 1) (body_at : sc.body ≡ at + 1 + length (test_rows t)) where
-      pub scope_ready : PlacesReady es rs room (length η) (length s) sc w w
+      pub scope_ready : PlacesReady es rs room (length η) (length s) x.scoping x.window x.left
       scope_ready =
           let k = ok.stands in
-          let fits = and_parts _ _ (subst (λ x. well_scoped k.sorts x ≡ true) is k.fits) in
+          let fits = and_parts _ _ (subst (λ x. well_scoped k.sorts x ≡ true) scope_parts.is k.fits) in
           let inner_fits = and_parts _ _ fits.1 in
           let space : length k.sorts < 8 = ltb-true (length k.sorts) 8 fits.0 in
           let many = k.many in
-          let deep = subst (λ x. length s + depth_of x ≤ room) is k.deep in
+          let deep = subst (λ x. length s + depth_of x ≤ room) scope_parts.is k.deep in
           let long = length_push k.sorts sort.Event in
-          record {
-            body = standing rs (length η + 1) sc.body (length s + 1) room p second (k.sorts with sort.Event) (omega arith) inner_fits.1 (omega arith);
-            test = subst (λ i. Begins rs i (test_rows (test_at rs i))) (sym test_here) (test_begins rs (at + 1) t first);
+          let ready : PlacesReady es rs room (length η) (length s) sc w w
+          = record {
+            body = standing rs (length η + 1) sc.body (length s + 1) room scope_body body_begins (k.sorts with sort.Event) (omega arith) inner_fits.1 (omega arith);
+            test = subst (λ i. Begins rs i (test_rows (test_at rs i))) (sym test_next) (test_begins rs (at + 1) scope_test scope_parts.left);
             space = omega arith;
             inside = ok.inside;
             within = omega arith;
-          }
+          } in
+          rw new ready
 
       scope_worth : resume es rs η s (sweeping es rs sc η w None Holds w) ≡ worth es rs η (Ask at w) s
       scope_worth =
           ap (resume es rs η s)
           (sweeps sc.pick w (delimiter_test es rs sc η) (inner es rs sc η w)
-          ∙ ap₂ (λ i x. scoped sc.pick w (asked es η i sc.name (test_at rs i)) (λ j. judged es (η ⊕ var.Event (event_at es j)) (window sc.side (time_at es) sc.duration j w) sc.body x)) test_here (property_is rs sc.body p second)
-          ∙ ap₂ (λ x i. scoped sc.pick w (asked es η (at + 1) sc.name x) (λ j. judged es (η ⊕ var.Event (event_at es j)) (window sc.side (time_at es) sc.duration j w) i p)) (test_is rs (at + 1) t first) body_at)
-          ∙ sym (ap (λ x. resume es rs η s (judged es η w at x)) is)
+          ∙ ap₂ (λ i x. scoped sc.pick w (asked es η i sc.name (test_at rs i)) (λ j. judged es (η ⊕ var.Event (event_at es j)) (window sc.side (time_at es) sc.duration j w) sc.body x)) test_next (property_is rs sc.body scope_body body_begins)
+          ∙ ap₂ (λ x i. scoped sc.pick w (asked es η (at + 1) sc.name x) (λ j. judged es (η ⊕ var.Event (event_at es j)) (window sc.side (time_at es) sc.duration j w) i scope_body)) (test_is rs (at + 1) scope_test scope_parts.left) body_at)
+          ∙ sym (ap (λ x. resume es rs η s (judged es η w at x)) scope_parts.is)
 
-      pub from_scope : length es ≤ 65535 → {θ : Variables} {u : Turn} {r : List JudgingRow} → Trying η s sc w w None Holds scope_ready ok.waits θ u r → From θ u r
-      from_scope small o =
-          let before : steps_at rs at ≡ 2 + 65535 * (1 + steps p) = ap steps is in
-          let after : steps_at rs sc.body ≡ steps p = ap steps (property_is rs sc.body p second) in
+      pub from_scope : length es ≤ 65535 → {θ : Variables} {u : Turn} {r : List JudgingRow} {n : ℕ} →
+          Onward es rs n θ u r (resume es rs η s (sweeping es rs x.scoping η x.window x.lowest x.verdict x.left)) (pending rs (Places x ∷ s)) → From n θ u r
+      from_scope small {θ} {u} {r} {n} o =
+          let first = subst (λ x. Onward es rs n θ u r (resume es rs η s (sweeping es rs x.scoping η x.window x.lowest x.verdict x.left)) (pending rs (Places x ∷ s))) new o in
+          let before : steps_at rs at ≡ 2 + 65535 * (1 + steps scope_body) = ap steps scope_parts.is in
+          let after : steps_at rs sc.body ≡ steps scope_body = ap steps (property_is rs sc.body scope_body body_begins) in
           let i = ok.inside in
-          let most : (w.1 - w.0) * (1 + steps p) ≤ 65535 * (1 + steps p) = mul-le-mul_right (1 + steps p) (omega arith) in
-          let same : (w.1 - w.0) * (1 + steps_at rs sc.body) ≡ (w.1 - w.0) * (1 + steps p) = ap (λ x. (w.1 - w.0) * (1 + x)) after in
-          reworded o scope_worth (omega arith)
+          let most : (w.1 - w.0) * (1 + steps scope_body) ≤ 65535 * (1 + steps scope_body) = mul-le-mul_right (1 + steps scope_body) (omega arith) in
+          let same : (w.1 - w.0) * (1 + steps_at rs sc.body) ≡ (w.1 - w.0) * (1 + steps scope_body) = ap (λ x. (w.1 - w.0) * (1 + x)) after in
+          let nearer = first.nearer in
+          record { valid = first.valid; same = first.same ∙ scope_worth; nearer = omega arith }
 
-    module _ (q : Quantifying) (p : Property) (is : property_at rs at ≡ quantify q.quantifier q.variable q.code p)
-        (inner_begins : Begins rs (at + 1) (rows p)) (body_at : q.body ≡ at + 1) where
-      pub quantify_ready : ValuesReady es rs room (length η) (length s) q w
+    module _ {q : Quantifying} {x : ValuesRow} (new : x ≡ record { quantifying = q; window = w; depth = 0; next = 0; verdict = start q.quantifier })
+        (is : get_or rs at d ≡ Quantify q.quantifier q.variable q.code) (body_next : q.body ≡ at + 1) where
+      abbrev quantify_parts : PropertyBy rs at (Quantify q.quantifier q.variable q.code) (property_at rs at)
+      quantify_parts = property_by rs at d _ is _ ok.stands.begins
+
+      abbrev value_body : Property
+      value_body = quantify_parts.0
+
+      pub quantify_ready : ValuesReady es rs room (length η) (length s) x.quantifying x.window
       quantify_ready =
           let k = ok.stands in
-          let fits = and_parts _ _ (subst (λ x. well_scoped k.sorts x ≡ true) is k.fits) in
+          let fits = and_parts _ _ (subst (λ x. well_scoped k.sorts x ≡ true) quantify_parts.1 k.fits) in
           let space : length k.sorts < 8 = ltb-true (length k.sorts) 8 (and_parts _ _ fits.0).1 in
           let many = k.many in
-          let deep = subst (λ x. length s + depth_of x ≤ room) is k.deep in
+          let deep = subst (λ x. length s + depth_of x ≤ room) quantify_parts.1 k.deep in
           let long = length_push k.sorts sort.Number in
-          record {
-            body = subst (λ i. Standing rs (length η + 1) i (length s + 1) room) (sym body_at) (standing rs (length η + 1) (at + 1) (length s + 1) room p inner_begins (k.sorts with sort.Number) (omega arith) fits.1 (omega arith));
+          let ready : ValuesReady es rs room (length η) (length s) q w
+          = record {
+            body = subst (λ i. Standing rs (length η + 1) i (length s + 1) room) (sym body_next)
+                (standing rs (length η + 1) (at + 1) (length s + 1) room value_body quantify_parts.2 (k.sorts with sort.Number) (omega arith) fits.1 (omega arith));
             space = omega arith;
             inside = ok.inside;
-          }
+          } in
+          rw new ready
 
       quantify_worth : resume es rs η s (gathering es rs q η w (start q.quantifier) 0) ≡ worth es rs η (Ask at w) s
       quantify_worth =
           let vs = coded_from q.code (event_in (bound η q.variable)) 0 in
           ap (resume es rs η s)
           (combined_start q.quantifier _
-          ∙ ap (λ i. quantified q.quantifier vs (λ v. judged_at es rs (η ⊕ var.Number v) w i)) body_at
-          ∙ ap (λ x. quantified q.quantifier vs (λ v. judged es (η ⊕ var.Number v) w (at + 1) x)) (property_is rs (at + 1) p inner_begins))
-          ∙ sym (ap (λ x. resume es rs η s (judged es η w at x)) is)
+          ∙ ap (λ i. quantified q.quantifier vs (λ v. judged_at es rs (η ⊕ var.Number v) w i)) body_next
+          ∙ ap (λ x. quantified q.quantifier vs (λ v. judged es (η ⊕ var.Number v) w (at + 1) x)) (property_is rs (at + 1) value_body quantify_parts.2))
+          ∙ sym (ap (λ x. resume es rs η s (judged es η w at x)) quantify_parts.1)
 
-      pub from_quantify : (v : Verdict) → v ≡ start q.quantifier → {θ : Variables} {u : Turn} {r : List JudgingRow} → Gathering η s q w 0 v quantify_ready ok.waits θ u r → From θ u r
-      from_quantify v e o =
-          let before : steps_at rs at ≡ 2 + 4 * (1 + steps p) = ap steps is in
-          let after : steps_at rs q.body ≡ steps p = ap (steps_at rs) body_at ∙ ap steps (property_is rs (at + 1) p inner_begins) in
-          let same : 4 * (1 + steps_at rs q.body) ≡ 4 * (1 + steps p) = ap (λ x. 4 * (1 + x)) after in
-          reworded o (ap (λ x. resume es rs η s (gathering es rs q η w x 0)) e ∙ quantify_worth) (omega arith)
+      pub from_quantify : {θ : Variables} {u : Turn} {r : List JudgingRow} {n : ℕ} →
+          Onward es rs n θ u r (resume es rs η s (gathering es rs x.quantifying η x.window x.verdict x.next)) (pending rs (Values x ∷ s)) → From n θ u r
+      from_quantify {θ} {u} {r} {n} o =
+          let first = subst (λ x. Onward es rs n θ u r (resume es rs η s (gathering es rs x.quantifying η x.window x.verdict x.next)) (pending rs (Values x ∷ s))) new o in
+          let before : steps_at rs at ≡ 2 + 4 * (1 + steps value_body) = ap steps quantify_parts.1 in
+          let after : steps_at rs q.body ≡ steps value_body = ap (steps_at rs) body_next ∙ ap steps (property_is rs (at + 1) value_body quantify_parts.2) in
+          let same : 4 * (1 + steps_at rs q.body) ≡ 4 * (1 + steps value_body) = ap (λ x. 4 * (1 + x)) after in
+          let nearer = first.nearer in
+          record { valid = first.valid; same = first.same ∙ quantify_worth; nearer = omega arith }

@@ -1,5 +1,5 @@
 pub mod Answers
-pub mod Bindings
+pub mod Asking
 pub mod Extents
 pub mod Judging
 pub mod Machine

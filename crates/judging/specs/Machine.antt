@@ -18,11 +18,12 @@ use Rattle.meaning.specs.declared.verdict.Variable.TheVariants as var
 use Rattle.meaning.specs.declared.verdict.Verdict.{Verdict}
 use Rattle.meaning.specs.declared.verdict.Verdict.TheVariants.{Holds, Fails, Open}
 use Rattle.meaning.specs.Three.{not3, and3, or3}
-use Rattle.meaning.specs.Terms.{Variables, ◌⊕◌, bound, event_in}
+use Rattle.meaning.specs.Terms.{Variables, ◌⊕◌, bound, event_in, coded_from}
 use Rattle.meaning.specs.Windows.{Window, window}
 use Rattle.meaning.specs.Verdicts.{connected, quantified, judged}
-use Rattle.judging.specs.declared.sweep.Outcome.{Outcome}
-use Rattle.judging.specs.declared.sweep.Outcome.TheVariants.{Settled, SoFar}
+use Rattle.judging.specs.declared.progress.Progress.{Progress}
+use Rattle.std.specs.declared.ops.ControlFlow.{ControlFlow}
+use Rattle.std.specs.declared.ops.ControlFlow.TheVariants.{Break, Continue}
 use Rattle.judging.specs.declared.working.JudgingRow.{JudgingRow}
 use Rattle.judging.specs.declared.working.JudgingRow.TheVariants.{Negation, Left, Right, Values, Places}
 use Rattle.judging.specs.declared.working.PlacesRow.{PlacesRow}
@@ -31,9 +32,10 @@ use Rattle.judging.specs.declared.working.Scoping.{Scoping}
 use Rattle.judging.specs.declared.working.ValuesRow.{ValuesRow}
 use Rattle.judging.specs.declared.working.Turn.{Turn}
 use Rattle.judging.specs.declared.working.Turn.TheVariants.{Ask, Told}
-use Rattle.meaning.specs.Terms.{coded_from}
+use Rattle.lists.specs.ShortLists.{items}
 use Rattle.judging.specs.Seeking.{delimiter_test}
 use Rattle.judging.specs.Sweeps.{order, absorbed, swept}
+use Rattle.stacks.specs.Stacks.{held, room}
 
 -- What is answered.
 
@@ -79,9 +81,9 @@ module _ (es : List Event) (rs : List Row) where
   abbrev pub sweeping : Scoping → Variables → Window → Option Origin → Verdict → Window → Verdict
   sweeping sc η w d u left = swept sc.pick (delimiter_test es rs sc η) (inner sc η w) d u (order sc.pick left)
 
-  abbrev pub continued : Scoping → Variables → Window → Option Origin → Window → Outcome → Verdict
-  continued sc η w d left (Settled v) = v
-  continued sc η w d left (SoFar u) = sweeping sc η w d u left
+  abbrev pub continued : Scoping → Variables → Window → Option Origin → Window → ControlFlow Verdict Verdict → Verdict
+  continued sc η w d left (Break v) = v
+  continued sc η w d left (Continue u) = sweeping sc η w d u left
 
   -- a quantifier, over the values from a slot on
   abbrev pub gathering : Quantifying → Variables → Window → Verdict → (slot : ℕ) → Verdict
@@ -193,19 +195,45 @@ module _ (es : List Event) (rs : List Row) (room : ℕ) where
     pub same : worth es rs η t s ≡ v
     pub nearer : turns_left rs t s < turns
 
-  -- one turn from a row, from a verdict that the newest row waits for,
+-- A judging in progress.
+
+-- one more row finds room to wait
+abbrev pub HasRoom : Progress → Type 0
+HasRoom p = length (held p.stack) < room p.stack
+
+module _ (es : List Event) (rs : List Row) where
+  -- what waits is ready, with nothing or with one more row on top
+  abbrev pub Waiting : Progress → List JudgingRow → Type 0
+  Waiting p s = Waits es rs (room p.stack) (items p.known) s
+
+  -- a row can be judged, the values of a quantifier can be gone through, and the places of a scope
+  abbrev pub ReadyAt : Progress → (at : ℕ) → Window → Type 0
+  ReadyAt p at w = Asking es rs (room p.stack) (items p.known) at w (held p.stack)
+
+  abbrev pub ReadyForValues : Progress → ValuesRow → Type 0
+  ReadyForValues p x =
+      ValuesReady es rs (room p.stack) (length (items p.known)) (length (held p.stack)) x.quantifying x.window × Waiting p (held p.stack)
+
+  abbrev pub ReadyForPlaces : Progress → PlacesRow → Type 0
+  ReadyForPlaces p x =
+      PlacesReady es rs (room p.stack) (length (items p.known)) (length (held p.stack)) x.scoping x.window x.left × Waiting p (held p.stack)
+
+  -- one turn from p on, after which q stands: from a row, from a verdict that a row waits for,
   -- from the places of a scope that are still to be tried, and from the values of a quantifier that are still to come
 
-  abbrev pub OnwardAsked : Variables → (at : ℕ) → Window → List JudgingRow → Variables → Turn → List JudgingRow → Type 0
-  OnwardAsked η at w s θ t r = Onward θ t r (worth es rs η (Ask at w) s) (turns_left rs (Ask at w) s)
+  abbrev pub Nearer : Progress → Turn → Verdict → (turns : ℕ) → Type 0
+  Nearer q t v n = Onward es rs (room q.stack) (items q.known) t (held q.stack) v n
 
-  abbrev pub OnwardTold : Variables → Verdict → List JudgingRow → Variables → Turn → List JudgingRow → Type 0
-  OnwardTold η v s θ t r = Onward θ t r (worth es rs η (Told v) s) (turns_left rs (Told v) s)
+  abbrev pub OnwardAsked : Progress → (at : ℕ) → Window → Progress → Turn → Type 0
+  OnwardAsked p at w q t = Nearer q t (worth es rs (items p.known) (Ask at w) (held p.stack)) (turns_left rs (Ask at w) (held p.stack))
 
-  abbrev pub OnwardTried : PlacesRow → Variables → List JudgingRow → Variables → Turn → List JudgingRow → Type 0
-  OnwardTried x η s θ t r =
-      Onward θ t r (resume es rs η s (sweeping es rs x.scoping η x.window x.lowest x.verdict x.left)) (pending rs (Places x ∷ s))
+  abbrev pub OnwardTold : Progress → JudgingRow → Verdict → Progress → Turn → Type 0
+  OnwardTold p x v q t = Nearer q t (worth es rs (items p.known) (Told v) (x ∷ held p.stack)) (turns_left rs (Told v) (x ∷ held p.stack))
 
-  abbrev pub OnwardValued : ValuesRow → Variables → List JudgingRow → Variables → Turn → List JudgingRow → Type 0
-  OnwardValued x η s θ t r =
-      Onward θ t r (resume es rs η s (gathering es rs x.quantifying η x.window x.verdict x.next)) (pending rs (Values x ∷ s))
+  abbrev pub OnwardTried : Progress → PlacesRow → Progress → Turn → Type 0
+  OnwardTried p x q t =
+      Nearer q t (resume es rs (items p.known) (held p.stack) (sweeping es rs x.scoping (items p.known) x.window x.lowest x.verdict x.left)) (pending rs (Places x ∷ held p.stack))
+
+  abbrev pub OnwardValued : Progress → ValuesRow → Progress → Turn → Type 0
+  OnwardValued p x q t =
+      Nearer q t (resume es rs (items p.known) (held p.stack) (gathering es rs x.quantifying (items p.known) x.window x.verdict x.next)) (pending rs (Values x ∷ held p.stack))

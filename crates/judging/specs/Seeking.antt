@@ -1,5 +1,5 @@
 -- The possible delimiters of a scope, found one by one.
-use Rattle.std.specs.Prelude.{◌≡◌, ℕ, ◌-◌, ◌<◌, ◌≤◌, true, List, ◌∷◌, Some, None, Option}
+use Rattle.std.specs.Prelude.{◌≡◌, ℕ, ◌-◌, ◌<◌, ◌≤◌, true, List, [], ◌∷◌, Some, None, Option}
 use Rattle.logs.specs.declared.event.Event.{Event}
 use Rattle.logs.specs.Events.{event_at}
 use Rattle.logs.specs.Lawful.{time_at}
@@ -20,10 +20,15 @@ pub record Fewer (left others : Window) : Type 0 where
   pub inside : others.1 ≤ left.1
   pub less : others.1 - others.0 < left.1 - left.0
 
-pub record NextPlace (o : Pick) (left : Window) (r : ℕ × Window) : Type 0 where
+pub record NextAt (o : Pick) (left : Window) (r : ℕ × Window) : Type 0 where
   pub same : order o left ≡ r.0 ∷ order o r.1
   pub inside : r.0 < left.1
   pub fewer : Fewer left r.1
+
+-- the next place, and the others, or none
+abbrev pub NextPlace : Pick → Window → Option (ℕ × Window) → Type 0
+NextPlace o left None = order o left ≡ []
+NextPlace o left (Some r) = NextAt o left r
 
 -- the test of a scope's delimiters
 abbrev pub delimiter_test : List Event → List Row → Scoping → Variables → ℕ → Verdict

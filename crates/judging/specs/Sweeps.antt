@@ -7,8 +7,8 @@ use Rattle.meaning.specs.declared.verdict.Verdict.{Verdict}
 use Rattle.meaning.specs.declared.verdict.Verdict.TheVariants.{Holds, Fails, Open}
 use Rattle.meaning.specs.Three.{holds?, possible?}
 use Rattle.meaning.specs.Windows.{Window, places}
-use Rattle.judging.specs.declared.sweep.Outcome.{Outcome}
-use Rattle.judging.specs.declared.sweep.Outcome.TheVariants.{Settled, SoFar}
+use Rattle.std.specs.declared.ops.ControlFlow.{ControlFlow}
+use Rattle.std.specs.declared.ops.ControlFlow.TheVariants.{Break, Continue}
 
 -- n places from i on, falling
 abbrev pub downto : ℕ → ℕ → List ℕ
@@ -44,21 +44,22 @@ former Holds v = v
 former Fails v = Fails
 former (Open q) v = Open q
 
--- one more delimiter, with the verdict v of p there; s is what stands so far
-abbrev pub absorbed : Pick → (test : Verdict) → Option Origin → (s v : Verdict) → Outcome
-absorbed First Holds d s v = Settled (closed d v)
-absorbed First Fails d s v = SoFar s
-absorbed First (Open q) d s Holds = SoFar s
-absorbed First (Open q) d s Fails = Settled (closed d Fails)
-absorbed First (Open q) d s (Open e) = Settled (Open e)
-absorbed Each Holds d s Holds = SoFar s
-absorbed Each Holds d s Fails = Settled Fails
-absorbed Each Holds d s (Open e) = SoFar (former s (Open e))
-absorbed Each Fails d s v = SoFar s
-absorbed Each (Open q) d s v = SoFar (former s (closed d v))
-absorbed Last Holds d s v = Settled (closed d (former v s))
-absorbed Last Fails d s v = SoFar s
-absorbed Last (Open q) d s v = SoFar (former v s)
+-- one more delimiter, with the verdict v of p there; s is what stands so far.
+-- It breaks with the verdict of the scope, or continues with what stands then.
+abbrev pub absorbed : Pick → (test : Verdict) → Option Origin → (s v : Verdict) → ControlFlow Verdict Verdict
+absorbed First Holds d s v = Break (closed d v)
+absorbed First Fails d s v = Continue s
+absorbed First (Open q) d s Holds = Continue s
+absorbed First (Open q) d s Fails = Break (closed d Fails)
+absorbed First (Open q) d s (Open e) = Break (Open e)
+absorbed Each Holds d s Holds = Continue s
+absorbed Each Holds d s Fails = Break Fails
+absorbed Each Holds d s (Open e) = Continue (former s (Open e))
+absorbed Each Fails d s v = Continue s
+absorbed Each (Open q) d s v = Continue (former s (closed d v))
+absorbed Last Holds d s v = Break (closed d (former v s))
+absorbed Last Fails d s v = Continue s
+absorbed Last (Open q) d s v = Continue (former v s)
 
 -- whether the property has to be judged at a place: its test is other than no,
 -- and for each, once something is open, only a yes can change that
@@ -74,5 +75,5 @@ abbrev pub swept : Pick → (f p : ℕ → Verdict) → Option Origin → (s : V
 swept o f p d s [] = closed d s
 swept o f p d s (i ∷ is) =
     cond (needed o s (f i))
-    (elim (absorbed o (f i) (doubted o (f i) d) s (p i)) [ Settled v ↦ v | SoFar u ↦ swept o f p (doubted o (f i) d) u is ])
+    (elim (absorbed o (f i) (doubted o (f i) d) s (p i)) [ Break v ↦ v | Continue u ↦ swept o f p (doubted o (f i) d) u is ])
     (swept o f p d s is)

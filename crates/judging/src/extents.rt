@@ -23,7 +23,7 @@ fn parts(row: Row) -> usize
 fn number_at(numbers: &[usize], i: usize) -> usize
     ensures { result ≡ slice_index numbers.now i }
 {
-    if i < numbers.len() { numbers[i] } else { 0 }
+    numbers.get(i).copied().unwrap_or(0)
 }
 
 // The row behind the part at a row that is followed by so many parts, from the ends of the later ones.

@@ -5,24 +5,38 @@ ghost use Rattle.meaning.specs.Wording.{Wording};
 ghost use Rattle.meaning.specs.Durations.{Contiguous};
 ghost use Rattle.judging.specs.Judging.{judge_answer, judge_refusal_number};
 
-use crate::machine::run;
+use crate::matter::Matter;
 use crate::working::JudgingRow;
 use logs::log::ReadingLog;
 use meaning::verdict::Verdict;
-use rules::sheet::Sheet;
+use rules::sheet::{ReachRefusal, Sheet};
 
 // Why a rule is not judged.
-#[derive(Clone, Copy)]
+#[derive(Clone, Copy, PartialEq, Eq, Debug)]
 pub enum JudgeRefusal {
     NoSuchRule,
     TooFewRows,
 }
 
-impl JudgeRefusal {
-    pub fn number(self) -> u8
-        ensures { result ≡ judge_refusal_number self }
-    {
-        match self {
+impl From<ReachRefusal> for JudgeRefusal {
+    ghost use Rattle.std.specs.Prelude.{◌≡◌};
+    ghost use Rattle.judging.specs.declared.judge.JudgeRefusal.TheVariants.{NoSuchRule};
+
+    ghost from_gives = { λ _ refusal. refusal ≡ NoSuchRule };
+
+    fn from(refusal: ReachRefusal) -> JudgeRefusal {
+        match refusal {
+            ReachRefusal::NoSuchRule => JudgeRefusal::NoSuchRule,
+        }
+    }
+}
+
+// The number of a refusal in a report.
+impl From<JudgeRefusal> for u8 {
+    ghost from_gives = { λ refusal number. number ≡ judge_refusal_number refusal };
+
+    fn from(refusal: JudgeRefusal) -> u8 {
+        match refusal {
             JudgeRefusal::NoSuchRule => 7,
             JudgeRefusal::TooFewRows => 11,
         }
@@ -40,14 +54,10 @@ pub fn judge<L: ReadingLog>(
     ensures wording { Wording }
     ensures contiguous { Contiguous }
 {
-    let Some(at) = sheet.start(rule) else {
-        return Err(JudgeRefusal::NoSuchRule);
-    };
-    let Ok(reach) = sheet.reach(rule) else {
-        return Err(JudgeRefusal::NoSuchRule);
-    };
+    let at = sheet.start(rule).ok_or(JudgeRefusal::NoSuchRule)?;
+    let reach = sheet.reach(rule)?;
     if work.len() < reach {
         return Err(JudgeRefusal::TooFewRows);
     }
-    Ok(run(log, sheet.rows(), at, work))
+    Ok(Matter::new(log, sheet.rows()).run(at, work))
 }

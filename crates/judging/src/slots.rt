@@ -19,13 +19,11 @@ pub(crate) fn number_of(value: Value) -> Result<i32, Cause>
 pub(crate) fn next_coded(event: &Event, code: u8, from: usize) -> Option<(usize, Value)>
     ensures { NextCoded event.now code from result }
 {
-    let mut i = from;
-    while i < event.slots.len() && i < event.count as usize {
-        let value = event.slots[i];
-        if value.code() == code {
-            return Some((i, value));
+    let slots: &[Value] = &event.slots;
+    for (slot, value) in slots.iter().enumerate() {
+        if from <= slot && slot < event.count as usize && value.code() == code {
+            return Some((slot, *value));
         }
-        i += 1;
     }
     None
 }
@@ -34,11 +32,9 @@ pub(crate) fn next_coded(event: &Event, code: u8, from: usize) -> Option<(usize,
 pub(crate) fn only_coded(event: &Event, code: u8) -> Result<i32, Cause>
     ensures { result ≡ only (coded code event.now) }
 {
-    match next_coded(event, code, 0) {
-        None => Err(Cause::Missing),
-        Some((first, value)) => match next_coded(event, code, first + 1) {
-            Some(_) => Err(Cause::Several),
-            None => number_of(value),
-        },
+    let (slot, value) = next_coded(event, code, 0).ok_or(Cause::Missing)?;
+    match next_coded(event, code, slot + 1) {
+        Some(_) => Err(Cause::Several),
+        None => number_of(value),
     }
 }

@@ -1,133 +1,99 @@
 // The numbers of terms, by recursion over their rows.
-ghost use Rattle.std.specs.Prelude.{◌≡◌, ◌<◌, length, pos};
+ghost use Rattle.std.specs.Prelude.{◌≡◌, pos};
 ghost use Rattle.rules.specs.Trees.{Term, Begins, term_rows};
 ghost use Rattle.meaning.specs.Terms.{bound, event_in, value_in, step, blamed, strict, ranged};
 ghost use Rattle.judging.specs.Answers.{TermAt};
 
+use crate::question::Question;
 use crate::slots::{number_of, only_coded};
 use logs::event::{Event, Value};
 use meaning::verdict::{Cause, Origin, Variable};
 use rules::row::{Operation, Row};
 
-fn variable_at(known: &[Variable], variable: u8) -> Variable
-    ensures { result ≡ bound known.now variable }
-{
-    let i = variable as usize;
-    if i < known.len() {
-        known[i]
-    } else {
-        Variable::Event(Event::blank())
-    }
-}
-
-fn event_in(variable: Variable) -> Event
-    ensures { result ≡ event_in variable }
-{
-    match variable {
-        Variable::Event(event) => event,
-        Variable::Number(_) => Event::blank(),
-    }
-}
-
-fn value_in(variable: Variable) -> Value
-    ensures { result ≡ value_in variable }
-{
-    match variable {
-        Variable::Event(_) => Value::Unread { code: 0 },
-        Variable::Number(value) => value,
-    }
-}
-
 // The event that a variable stands for.
 pub(crate) fn known_event(known: &[Variable], variable: u8) -> Event
     ensures { result ≡ event_in (bound known.now variable) }
 {
-    event_in(variable_at(known, variable))
-}
-
-fn reckon(operation: Operation, x: i32, y: i32) -> Result<i32, Cause>
-    ensures { result ≡ step operation x y }
-{
-    if let Operation::Quotient = operation
-        && y == 0
-    {
-        return Err(Cause::ZeroDivisor);
-    }
-    let result = match operation {
-        Operation::Sum => x.checked_add(y),
-        Operation::Difference => x.checked_sub(y),
-        Operation::Product => x.checked_mul(y),
-        Operation::Quotient => x.checked_div(y),
-    };
-    result.ok_or(Cause::OutOfRange)
-}
-
-fn blame(place: u16, row: usize, res: Result<i32, Cause>) -> Result<i32, Origin>
-    ensures { result ≡ blamed place row res }
-{
-    match res {
-        Ok(number) => Ok(number),
-        Err(cause) => Err(Origin { row, place, cause }),
+    match known.get(variable as usize) {
+        Some(Variable::Event(event)) => *event,
+        Some(Variable::Number(_)) | None => Event::blank(),
     }
 }
 
-fn combine(
-    place: u16,
-    row: usize,
-    operation: Operation,
-    x: Result<i32, Origin>,
-    y: Result<i32, Origin>,
-) -> Result<i32, Origin>
-    ensures { result ≡ strict place row operation x y }
+// The value that a variable stands for.
+fn known_value(known: &[Variable], variable: u8) -> Value
+    ensures { result ≡ value_in (bound known.now variable) }
 {
-    match (x, y) {
-        (Err(origin), _) => Err(origin),
-        (Ok(_), Err(origin)) => Err(origin),
-        (Ok(x), Ok(y)) => blame(place, row, reckon(operation, x, y)),
+    match known.get(variable as usize) {
+        Some(Variable::Number(value)) => *value,
+        Some(Variable::Event(_)) | None => Value::Unread { code: 0 },
     }
 }
 
 fn time_of(event: Event) -> Result<i32, Cause>
     ensures { result ≡ ranged (pos event.time) }
 {
-    if event.time <= i32::MAX as u32 {
-        Ok(event.time as i32)
-    } else {
-        Err(Cause::OutOfRange)
+    i32::try_from(event.time).map_err(|_| Cause::OutOfRange)
+}
+
+fn reckon(operation: Operation, x: i32, y: i32) -> Result<i32, Cause>
+    ensures { result ≡ step operation x y }
+{
+    match operation {
+        Operation::Sum => x.checked_add(y).ok_or(Cause::OutOfRange),
+        Operation::Difference => x.checked_sub(y).ok_or(Cause::OutOfRange),
+        Operation::Product => x.checked_mul(y).ok_or(Cause::OutOfRange),
+        Operation::Quotient if y == 0 => Err(Cause::ZeroDivisor),
+        Operation::Quotient => x.checked_div(y).ok_or(Cause::OutOfRange),
     }
 }
 
-// The number of the term whose rows begin at `at`, in a test asked at `place`, and the row behind it.
-pub(crate) fn term(
-    rows: &[Row],
-    at: usize,
-    known: &[Variable],
-    place: u16,
-) -> (Result<i32, Origin>, usize)
-    requires within { at < length rows.now }
-    requires spelt { (t : Term) × Begins rows.now at (term_rows t) }
-    ensures { (t : Term) → Begins rows.now at (term_rows t) → TermAt known.now place at t result }
-{
-    let row = rows[at];
-    match row {
-        Row::Constant { number } => (Ok(number), at + 1),
-        Row::Time { variable } => (
-            blame(place, at, time_of(known_event(known, variable))),
-            at + 1,
-        ),
-        Row::Value { variable, code } => (
-            blame(place, at, only_coded(&known_event(known, variable), code)),
-            at + 1,
-        ),
-        Row::Number { variable } => (
-            blame(place, at, number_of(value_in(variable_at(known, variable)))),
-            at + 1,
-        ),
-        Row::Reckon { operation } => {
-            let (x, mid) = term(rows, at + 1, known, place);
-            let (y, next) = term(rows, mid, known, place);
-            (combine(place, at, operation, x, y), next)
+impl Question<'_> {
+    // What the term at a row lacks by itself has its origin there.
+    fn blame(self, row: usize, number: Result<i32, Cause>) -> Result<i32, Origin>
+        ensures { result ≡ blamed self.entry.place row number }
+    {
+        let place = self.place;
+        number.map_err(|cause| Origin { row, place, cause })
+    }
+
+    fn combine(
+        self,
+        row: usize,
+        operation: Operation,
+        x: Result<i32, Origin>,
+        y: Result<i32, Origin>,
+    ) -> Result<i32, Origin>
+        ensures { result ≡ strict self.entry.place row operation x y }
+    {
+        self.blame(row, reckon(operation, x?, y?))
+    }
+
+    // The number of the term whose rows begin at `at`, and the row behind it.
+    pub(crate) fn term(self, at: usize) -> (Result<i32, Origin>, usize)
+        requires { (t : Term) × Begins self.rows.now at (term_rows t) }
+        ensures { (t : Term) → Begins self.entry.rows.now at (term_rows t) → TermAt self.entry.known.now self.entry.place at t result }
+    {
+        match self.row(at) {
+            Row::Constant { number } => (Ok(number), at + 1),
+            Row::Time { variable } => {
+                let event = known_event(self.known, variable);
+                (self.blame(at, time_of(event)), at + 1)
+            }
+            Row::Value { variable, code } => {
+                let event = known_event(self.known, variable);
+                (self.blame(at, only_coded(&event, code)), at + 1)
+            }
+            Row::Number { variable } => {
+                let value = known_value(self.known, variable);
+                (self.blame(at, number_of(value)), at + 1)
+            }
+            Row::Reckon { operation } => {
+                let (x, mid) = self.term(at + 1);
+                let (y, next) = self.term(mid);
+                (self.combine(at, operation, x, y), next)
+            }
+            _ => unreachable(),
         }
-        _ => unreachable(),
     }
 }

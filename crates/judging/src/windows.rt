@@ -16,13 +16,6 @@ pub(crate) fn event_at<L: ReadingLog>(log: &L, place: u16) -> Event
     log.get(place).unwrap_or(Event::blank())
 }
 
-// Whether a time is below a limit.
-fn is_below(time: u32, limit: u64) -> bool
-    ensures { result ≡ nat_lt time limit }
-{
-    (time as u64) < limit
-}
-
 // The first place of the window with a time of at least `limit`, found by halving, or the window's end.
 fn first_from<L: ReadingLog>(log: &L, limit: u64, window: (u16, u16)) -> u16
     requires { window.1 ≤ length (L.events log.now) }
@@ -31,7 +24,7 @@ fn first_from<L: ReadingLog>(log: &L, limit: u64, window: (u16, u16)) -> u16
     let (mut low, mut high) = window;
     while low < high {
         let middle = low + (high - low) / 2;
-        if is_below(event_at(log, middle).time, limit) {
+        if (event_at(log, middle).time as u64) < limit {
             low = middle + 1;
         } else {
             high = middle;
@@ -56,17 +49,13 @@ pub(crate) fn cut<L: ReadingLog>(
 {
     let (from, to) = window;
     match side {
+        Side::After if duration == 0 => (place + 1, to),
         Side::After => {
-            if duration == 0 {
-                return (place + 1, to);
-            }
             let limit = time as u64 + duration as u64;
             (place + 1, first_from(log, limit, (place + 1, to)))
         }
+        Side::Before if duration == 0 => (from, place),
         Side::Before => {
-            if duration == 0 {
-                return (from, place);
-            }
             let limit = (time as u64 + 1).saturating_sub(duration as u64);
             (first_from(log, limit, (from, place)), place)
         }

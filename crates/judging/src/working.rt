@@ -42,6 +42,27 @@ pub struct ValuesRow {
     pub verdict: Verdict,
 }
 
+impl ValuesRow {
+    ghost use Rattle.std.specs.Prelude.{◌≡◌};
+    ghost use Rattle.judging.specs.Machine.{start};
+
+    // A quantifier before its first value.
+    pub(crate) fn new(quantifying: Quantifying, window: (u16, u16)) -> ValuesRow
+        ensures { result ≡ record { quantifying = quantifying; window = window; depth = 0; next = 0; verdict = start quantifying.quantifier } }
+    {
+        ValuesRow {
+            quantifying,
+            window,
+            depth: 0,
+            next: 0,
+            verdict: match quantifying.quantifier {
+                Quantifier::Forall => Verdict::Holds,
+                Quantifier::Exists => Verdict::Fails,
+            },
+        }
+    }
+}
+
 // A scope at one of its delimiters: the places still to be tried, the delimiter's test,
 // the lowest open test, and what stands so far.
 #[derive(Clone, Copy)]
@@ -53,6 +74,25 @@ pub struct PlacesRow {
     pub test: Verdict,
     pub lowest: Option<Origin>,
     pub verdict: Verdict,
+}
+
+impl PlacesRow {
+    ghost use Rattle.std.specs.Prelude.{◌≡◌, None};
+
+    // A scope before its first delimiter.
+    pub(crate) fn new(scoping: Scoping, window: (u16, u16)) -> PlacesRow
+        ensures { result ≡ record { scoping = scoping; window = window; depth = 0; left = window; test = Verdict.Fails; lowest = None; verdict = Verdict.Holds } }
+    {
+        PlacesRow {
+            scoping,
+            window,
+            depth: 0,
+            left: window,
+            test: Verdict::Fails,
+            lowest: None,
+            verdict: Verdict::Holds,
+        }
+    }
 }
 
 // A property row whose verdict waits for that of a property below it.

@@ -1,3 +1,5 @@
 mod Lowest
+mod Sized
 mod Taken
+mod Bodies
 mod Holding

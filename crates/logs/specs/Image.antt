@@ -1,5 +1,5 @@
 -- The bytes of an image: the events of a log, as they are stored. Numbers have the lowest byte first.
-use Rattle.std.specs.Prelude.{◌≡◌, ℕ, zero, suc, ◌+◌, ◌*◌, ◌≤◌, Bool, true, false, cond, ◌&&◌, ◌||◌, List, [], ◌∷◌, map, length, ℤ, Some, None, Option, ◌==◌, nat_le, slice_index}
+use Rattle.std.specs.Prelude.{◌≡◌, ℕ, zero, suc, ◌+◌, ◌*◌, ◌≤◌, Bool, cond, ◌&&◌, ◌||◌, List, [], ◌∷◌, map, length, ℤ, Some, None, Option, ◌==◌, nat_le, slice_index}
 use Rattle.std.specs.Int.{cast_signed, w32}
 use Rattle.std.specs.List.{range_with_len}
 use Rattle.logs.specs.declared.event.Event.{Event}
@@ -123,10 +123,3 @@ unless_broken (Some i) es = []
 -- what an image means: the events that its bytes hold, or none if it is broken
 abbrev pub image_events : List ℕ → List Event
 image_events bs = unless_broken (image_broken bs) (events_in bs)
-
--- whether two findings are the same
-abbrev pub same_bad : Option ℕ → Option ℕ → Bool
-same_bad None None = true
-same_bad None (Some j) = false
-same_bad (Some i) None = false
-same_bad (Some i) (Some j) = i == j

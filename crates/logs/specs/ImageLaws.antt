@@ -1,15 +1,12 @@
 -- What an image means is a lawful log, whatever its bytes.
-use Rattle.std.specs.Prelude.{◌≡◌, ℕ, zero, suc, ◌+◌, ◌*◌, ◌<◌, ◌≤◌, Bool, true, false, cond, ◌&&◌, List, [], ◌∷◌, length, Some, None, Option, ◌==◌, nat_le, refl}
-use Rattle.std.proofs.Common.{sym, ap, subst, ◌∙◌, add-zero, zero-add, add-one, arith}
+use Rattle.std.specs.Prelude.{◌≡◌, ℕ, zero, suc, ◌+◌, ◌<◌, ◌≤◌, Bool, true, false, cond, List, [], ◌∷◌, length, Some, None, Option, refl}
+use Rattle.std.proofs.Common.{ap, subst, ◌∙◌, add-one, arith, ⊎_elim}
 use Rattle.std.proofs.lemmas.List.FromFn.{length-map-range_with_len, get_or-map-range_with_len}
-use Rattle.std.proofs.lemmas.Bool.{and_parts, and_from, leb-true, eqb-true}
+use Rattle.std.proofs.lemmas.Bool.{and_parts, and_from, leb-true, cases_eq}
 use Rattle.logs.specs.declared.event.Event.{Event}
 use Rattle.logs.specs.Events.{in_bounds, event_at, blank}
 use Rattle.logs.specs.Lawful.{Lawful, NeverFalls, all_in_bounds, time_at, most_events}
-use Rattle.logs.specs.Image.{Sizes, two, sized, body_width, event_width, event_count, body_place, body_laid, time_held, former_time, held_at, good_at, lowest_bad, wrong_sizes, image_broken, first_events, events_in, unless_broken, image_events}
-
-absent : (i : ℕ) → ◌≡◌ {A = Option ℕ} (Some i) None → ⊥
-absent i e = let z : ◌≡◌ {A = ℕ} 0 1 = cc in omega arith
+use Rattle.logs.specs.Image.{sized, event_count, body_place, body_laid, time_held, former_time, held_at, good_at, lowest_bad, wrong_sizes, image_broken, first_events, events_in, unless_broken, image_events}
 
 -- what it is for an event to be good
 pub record Good (bs : List ℕ) (n i : ℕ) : Type 0 where
@@ -19,41 +16,31 @@ pub record Good (bs : List ℕ) (n i : ℕ) : Type 0 where
 
 pub good_parts : (bs : List ℕ) (n i : ℕ) → good_at bs n i ≡ true → Good bs n i
 good_parts bs n i h =
-    let a = and_parts (body_laid bs (body_place n i)) (in_bounds (held_at bs n i) && nat_le (former_time bs i) (time_held bs i)) h in
-    let b = and_parts (in_bounds (held_at bs n i)) (nat_le (former_time bs i) (time_held bs i)) a.1 in
-    record { laid = a.0; inside = b.0; later = leb-true (former_time bs i) (time_held bs i) b.1 }
+    let a = and_parts _ _ h in
+    let b = and_parts _ _ a.1 in
+    record { laid = a.0; inside = b.0; later = leb-true _ _ b.1 }
 
 pub all_inside : (es : List Event) → ((i : ℕ) → i < length es → in_bounds (event_at es i) ≡ true) → all_in_bounds es ≡ true
 all_inside [] h = refl
-all_inside (e ∷ es) h = and_from (in_bounds e) (all_in_bounds es) (h 0 (omega arith)) (all_inside es (λ i l. h (suc i) (omega arith)))
+all_inside (e ∷ es) h = and_from _ _ (h 0 (omega arith)) (all_inside es (λ i l. h (suc i) (omega arith)))
+
+pub cond_none : (b : Bool) (o : Option ℕ) (i : ℕ) → cond b o (Some i) ≡ None → (b ≡ true) × (o ≡ None)
+cond_none true o i e = (refl, e)
+cond_none false o i e = absurd cc
 
 module _ (bs : List ℕ) where
-  by_good : (n i left : ℕ) (b : Bool) → good_at bs n i ≡ b → cond b (lowest_bad bs n (i + 1) left) (Some i) ≡ None → (good_at bs n i ≡ true) × (lowest_bad bs n (i + 1) left ≡ None)
-  by_good n i left true g e = (g, e)
-  by_good n i left false g e = absurd (absent i e)
+  -- where no event is bad, each is good
+  lowest_none : (n i left : ℕ) → lowest_bad bs n i left ≡ None → (j : ℕ) → i ≤ j → j < i + left → good_at bs n j ≡ true
+  lowest_none n i zero e j low high = absurd (omega arith)
+  lowest_none n i (suc left) e j low high =
+      let here = cond_none (good_at bs n i) (lowest_bad bs n (i + 1) left) i e in
+      ⊎_elim (λ (same : i ≡ j). subst (λ k. good_at bs n k ≡ true) same here.0) (λ (other : i ≡ j → ⊥). lowest_none n (i + 1) left here.1 j (omega arith) (omega arith)) (cases_eq i j)
 
-  lowest_none : (n i left : ℕ) → lowest_bad bs n i left ≡ None → (j : ℕ) → j < left → good_at bs n (i + j) ≡ true
-  lowest_none n i zero e j h = absurd (omega arith)
-  lowest_none n i (suc left) e zero h = subst (λ j. good_at bs n j ≡ true) (sym (add-zero i)) (by_good n i left (good_at bs n i) refl e).0
-  lowest_none n i (suc left) e (suc j) h =
-      let same : i + 1 + j ≡ i + suc j = omega arith in
-      subst (λ k. good_at bs n k ≡ true) same (lowest_none n (i + 1) left (by_good n i left (good_at bs n i) refl e).1 j (omega arith))
-
-  by_size : (b : Bool) → cond b (lowest_bad bs (event_count bs) 0 (event_count bs)) (Some wrong_sizes) ≡ None → (b ≡ true) × (lowest_bad bs (event_count bs) 0 (event_count bs) ≡ None)
-  by_size true e = (refl, e)
-  by_size false e = absurd (absent wrong_sizes e)
-
-  pub sizes_from : sized bs ≡ true → Sizes bs
-  sizes_from h =
-      let a = and_parts (nat_le 4 (length bs)) (two bs 2 == body_width && length bs == 4 + event_width * event_count bs) h in
-      let b = and_parts (two bs 2 == body_width) (length bs == 4 + event_width * event_count bs) a.1 in
-      record { head = leb-true 4 (length bs) a.0; width = eqb-true (two bs 2) body_width b.0; whole = eqb-true (length bs) (4 + event_width * event_count bs) b.1 }
-
-  pub unbroken_sizes : image_broken bs ≡ None → Sizes bs
-  unbroken_sizes e = sizes_from (by_size (sized bs) e).0
+  pub unbroken_parts : image_broken bs ≡ None → (sized bs ≡ true) × (lowest_bad bs (event_count bs) 0 (event_count bs) ≡ None)
+  unbroken_parts e = cond_none (sized bs) (lowest_bad bs (event_count bs) 0 (event_count bs)) wrong_sizes e
 
   pub unbroken_good : image_broken bs ≡ None → (i : ℕ) → i < event_count bs → Good bs (event_count bs) i
-  unbroken_good e i h = good_parts bs (event_count bs) i (subst (λ j. good_at bs (event_count bs) j ≡ true) (zero-add i) (lowest_none (event_count bs) 0 (event_count bs) (by_size (sized bs) e).1 i h))
+  unbroken_good e i h = good_parts bs (event_count bs) i (lowest_none (event_count bs) 0 (event_count bs) (unbroken_parts e).1 i (omega arith) (omega arith))
 
   pub former_next : (i : ℕ) → former_time bs (i + 1) ≡ time_held bs i
   former_next i = ap (former_time bs) (add-one i)
@@ -71,8 +58,7 @@ module _ (bs : List ℕ) where
         let less : k + 1 < m = omega (arith, length_first n m) in
         let this : time_at (first_events bs n m) k ≡ time_held bs k = ap (λ e. e.time) (event_first n m k (omega arith)) in
         let next : time_at (first_events bs n m) (k + 1) ≡ time_held bs (k + 1) = ap (λ e. e.time) (event_first n m (k + 1) less) in
-        let rises : time_held bs k ≤ time_held bs (k + 1) = subst (λ t. t ≤ time_held bs (k + 1)) (former_next k) (good (k + 1) less).later in
-        omega arith
+        omega (arith, former_next k, (good (k + 1) less).later)
 
     pub first_inside : all_in_bounds (first_events bs n m) ≡ true
     first_inside = all_inside (first_events bs n m) (λ i h. let less : i < m = omega (arith, length_first n m) in ap in_bounds (event_first n m i less) ∙ (good i less).inside)

@@ -1,6 +1,6 @@
 -- The events that a duration keeps stand together.
 use Rattle.std.proofs.Common.{◌≡◌, ℕ, zero, suc, ◌+◌, ◌-◌, ◌<◌, ◌≤◌, Bool, true, false, not, eqb, List, length, inl, inr, arith}
-use Rattle.std.proofs.lemmas.Bool.{cases_lt, cases_Bool, both_ways, ltb-true, ltb-false, lt-ltb, le-ltb, ne_eqb, not-false, not_from_true}
+use Rattle.std.proofs.lemmas.Bool.{cases_lt, cases_Bool, both_ways, ltb-true, ltb-false, lt-ltb, le-ltb, not-false, not_from_true}
 use Rattle.logs.specs.declared.event.Event.{Event}
 use Rattle.logs.specs.Lawful.{NeverFalls, time_at}
 use Rattle.rules.specs.declared.row.Side.TheVariants.{After, Before, Given}
@@ -86,7 +86,7 @@ module _ (q : ℕ → Bool) where
 
 -- a duration other than 0
 lasts : (d : ℕ) → eqb (suc d) 0 ≡ false
-lasts d = ne_eqb (suc d) 0 (λ e. omega arith)
+lasts d = grind arith
 
 pub contiguous : Contiguous
 contiguous es n After zero i w l m j = ((λ h. (h, tt)), λ h. h.0)

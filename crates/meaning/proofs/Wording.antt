@@ -1,5 +1,5 @@
 -- A scope holds if its property holds at each possible delimiter, and fails if it fails at a certain one.
-use Rattle.std.proofs.Common.{◌≡◌, ℕ, ◌+◌, ◌<◌, ◌≤◌, ◌≢◌, ◌↔◌, refl, ap, inl, inr, arith}
+use Rattle.std.proofs.Common.{◌≡◌, ℕ, ◌+◌, ◌<◌, ◌≤◌, ◌≢◌, ◌↔◌, ap, inl, inr, arith}
 use Rattle.rules.specs.declared.row.Pick.{Pick}
 use Rattle.rules.specs.declared.row.Pick.TheVariants.{First, Last, Each}
 use Rattle.meaning.specs.declared.verdict.Origin.{Origin}
@@ -13,38 +13,22 @@ use Rattle.meaning.proofs.Places.{and_holds, and_fails, fails_and, not_fails, no
 
 -- an open answer does not fail
 never : {o : Origin} → Open o ≡ Fails → ⊥
-never e = let z : ◌≡◌ {A = ℕ} 0 1 = cc in omega arith
+never e = cc
 
 -- What an implication says, read backwards.
 
 implies_holds : (d p : Verdict) → implies3 d p ≡ Holds → d ≢ Fails → p ≡ Holds
-implies_holds Holds Holds e h = refl
-implies_holds Holds Fails e h = e
-implies_holds Holds (Open o) e h = e
-implies_holds Fails p e h = absurd (h refl)
-implies_holds (Open o) Holds e h = refl
-implies_holds (Open o) Fails e h = cc
-implies_holds (Open o) (Open q) e h = cc
+implies_holds d p e h = grind arith
 
 holds_implies : (d p : Verdict) → (d ≢ Fails → p ≡ Holds) → implies3 d p ≡ Holds
-holds_implies Holds p h = rw (h (λ e. apart refl e))
-holds_implies Fails p h = refl
-holds_implies (Open o) p h = rw (h never)
+holds_implies d p h = grind arith
 
 implies_fails : (d p : Verdict) → implies3 d p ≡ Fails → (d ≡ Holds) × (p ≡ Fails)
-implies_fails Holds Holds e = (refl, e)
-implies_fails Holds Fails e = (refl, refl)
-implies_fails Holds (Open o) e = (refl, e)
-implies_fails Fails p e = (cc, cc)
-implies_fails (Open o) Holds e = (cc, cc)
-implies_fails (Open o) Fails e = (cc, refl)
-implies_fails (Open o) (Open q) e = (cc, cc)
+implies_fails d p e = grind arith
 
 -- another origin leaves what holds and what fails
 settled : (o : Origin) (v : Verdict) → ((settle o v ≡ Holds) ↔ (v ≡ Holds)) × ((settle o v ≡ Fails) ↔ (v ≡ Fails))
-settled o Holds = (((λ e. e), λ e. e), ((λ e. e), λ e. e))
-settled o Fails = (((λ e. e), λ e. e), ((λ e. e), λ e. e))
-settled o (Open p) = (((λ e. cc), λ e. cc), ((λ e. cc), λ e. cc))
+settled o v = grind arith
 
 -- No test of a run is yes, and each is no.
 module _ (f : ℕ → Verdict) (from to : ℕ) where
@@ -65,9 +49,7 @@ module _ (f : ℕ → Verdict) (from to : ℕ) where
 
 -- an answer that is neither yes nor open is no
 unsure_fails : (v : Verdict) → v ≢ Holds → (v ≢ Fails → ⊥) → v ≡ Fails
-unsure_fails Holds h k = absurd (h refl)
-unsure_fails Fails h k = refl
-unsure_fails (Open o) h k = absurd (k never)
+unsure_fails v h k = grind arith
 
 -- neither below nor above
 level : (i j : ℕ) → (j < i → ⊥) → (i < j → ⊥) → j ≡ i

@@ -107,6 +107,11 @@ abbrev pub answer : Bool → Verdict
 answer true = Holds
 answer false = Fails
 
+-- open if it lacks a value
+abbrev pub answer_of : Result Bool Origin → Verdict
+answer_of (Ok b) = answer b
+answer_of (Err l) = Open l
+
 abbrev pub related : Relation → ℤ → ℤ → Bool
 related Equal x y = int_le x y && int_le y x
 related Less x y = int_lt x y

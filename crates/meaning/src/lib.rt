@@ -1,5 +1,6 @@
 #![tactic(auto)]
 
+mod answers;
 mod connectives;
 pub mod numbers;
 pub mod verdict;

@@ -4,11 +4,11 @@ ghost use Rattle.meaning.specs.Terms.{cause_number};
 
 use crate::verdict::Cause;
 
-impl Cause {
-    pub fn number(self) -> u8
-        ensures { result ≡ cause_number self }
-    {
-        match self {
+impl From<Cause> for u8 {
+    ghost from_gives = { λ cause number. number ≡ cause_number cause };
+
+    fn from(cause: Cause) -> u8 {
+        match cause {
             Cause::Missing => 1,
             Cause::Several => 2,
             Cause::Unread => 3,

@@ -3,7 +3,7 @@ use logs::event::{Event, Value};
 
 // Why a term has no value: the event has no value of the code, or several, or an unread one;
 // a step leaves the range of signed 32-bit numbers; a divisor is zero.
-#[derive(Clone, Copy)]
+#[derive(Clone, Copy, Debug, PartialEq, Eq)]
 pub enum Cause {
     Missing,
     Several,
@@ -14,7 +14,7 @@ pub enum Cause {
 
 // The row, counted from 0 in the sheet, of a term that lacks its value by itself,
 // the place where its test was asked, and why.
-#[derive(Clone, Copy)]
+#[derive(Clone, Copy, Debug, PartialEq, Eq)]
 pub struct Origin {
     pub row: usize,
     pub place: u16,
@@ -22,7 +22,7 @@ pub struct Origin {
 }
 
 // What is said of a property or a test. An open one has an origin.
-#[derive(Clone, Copy)]
+#[derive(Clone, Copy, Debug, PartialEq, Eq)]
 pub enum Verdict {
     Holds,
     Fails,

@@ -1,15 +1,14 @@
--- A buffer that is filled from the front.
-use Rattle.std.proofs.Common.{◌≡◌, ℕ, ◌+◌, ◌<◌, List, [], ◌∷◌, ◌++◌, map, length, get_or, drop, set, sym, ap, ◌∙◌, append_assoc, arith}
-use Rattle.std.proofs.lemmas.List.{set_at, drop_more}
+-- A list that is filled with the results for 0, 1 and so on.
+use Rattle.std.proofs.Common.{◌≡◌, ℕ, ◌+◌, ◌<◌, List, [], ◌∷◌, ◌++◌, map, length, sym, ap, ap₂, ◌∙◌, arith}
 use Rattle.std.proofs.lemmas.List.FromFn.{length-map-range_with_len, map-range_with_len_more}
 use Rattle.std.specs.List.{range_with_len}
+use Rattle.lists.specs.Pushing.{with_item}
+use Rattle.lists.proofs.Room.{with_room}
 
-pub filled : {X : Type 0} (f : ℕ → X) (old now : List X) (i : ℕ) (v : X) → i < length old → now ≡ map f (range_with_len 0 i) ++ drop i old → v ≡ f i → set now i v ≡ map f (range_with_len 0 (i + 1)) ++ drop (i + 1) old
-filled f old now i v within e is =
-    let front = map f (range_with_len 0 i) in
-    let rest : drop i old ≡ get_or old i v ∷ drop (i + 1) old = drop_more old i v within in
-    ap (λ l. set l i v) (e ∙ ap (λ l. front ++ l) rest)
-    ∙ set_at front _ _ v i (length-map-range_with_len f 0 i)
-    ∙ ap (λ x. front ++ x ∷ drop (i + 1) old) is
-    ∙ sym (append_assoc front (f i ∷ []) (drop (i + 1) old))
-    ∙ ap (λ l. l ++ drop (i + 1) old) (sym (map-range_with_len_more f 0 i i (omega arith)))
+module _ {X : Type 0} (f : ℕ → X) (n : ℕ) (xs : List X) (i : ℕ) (so_far : xs ≡ map f (range_with_len 0 i)) where
+  -- there is room until n are there
+  pub has_room : i < n → length xs < n
+  has_room h = omega (arith, ap length so_far, length-map-range_with_len f 0 i)
+
+  pub filled : (v : X) → i < n → v ≡ f i → with_item n v xs ≡ map f (range_with_len 0 (i + 1))
+  filled v h is = with_room n v xs (has_room h) ∙ ap₂ (λ l x. l ++ (x ∷ [])) so_far is ∙ sym (map-range_with_len_more f 0 i i (omega arith))

@@ -30,15 +30,15 @@ input_carried TooLong = None
 input_carried (Sheet (Layout row)) = Some row
 input_carried (Image (Broken event)) = Some event
 
--- too long, else a refused sheet, else a refused image
+-- refused if it is too long, else if its sheet is refused, else if its image is
 
-abbrev pub image_refused : Result (Unit {0}) ImageRefusal → Option InputRefusal
-image_refused (Ok u) = None
-image_refused (Err refusal) = Some (Image refusal)
+abbrev pub image_taken : Result (Unit {0}) ImageRefusal → Result (Unit {0}) InputRefusal
+image_taken (Ok u) = Ok u
+image_taken (Err refusal) = Err (Image refusal)
 
-abbrev pub sheet_refused : Result (Unit {0}) InspectRefusal → Option InputRefusal → Option InputRefusal
-sheet_refused (Ok u) other = other
-sheet_refused (Err refusal) other = Some (Sheet refusal)
+abbrev pub sheet_taken : Result (Unit {0}) InspectRefusal → (other : Result (Unit {0}) InputRefusal) → Result (Unit {0}) InputRefusal
+sheet_taken (Ok u) other = other
+sheet_taken (Err refusal) other = Err (Sheet refusal)
 
-abbrev pub input_refusal : (size : ℕ) → Result (Unit {0}) InspectRefusal → Result (Unit {0}) ImageRefusal → Option InputRefusal
-input_refusal size inspected checked = cond (nat_lt most_bytes size) (Some TooLong) (sheet_refused inspected (image_refused checked))
+abbrev pub input_answer : (size : ℕ) → Result (Unit {0}) InspectRefusal → Result (Unit {0}) ImageRefusal → Result (Unit {0}) InputRefusal
+input_answer size inspected checked = cond (nat_lt most_bytes size) (Err TooLong) (sheet_taken inspected (image_taken checked))

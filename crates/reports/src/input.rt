@@ -1,6 +1,7 @@
 // The bytes that a program reads: a sheet, and the image of a log behind it.
 ghost use Rattle.std.specs.Prelude.{◌≡◌, ◌≤◌, length, take, drop};
-ghost use Rattle.reports.specs.Input.{sheet_end, input_refusal, input_refusal_number, input_carried};
+ghost use Rattle.reports.specs.declared.input.InputRefusal.TheVariants.{Sheet, Image};
+ghost use Rattle.reports.specs.Input.{sheet_end, input_answer, input_refusal_number, input_carried};
 
 use logs::image::ImageRefusal;
 use rules::sheet::InspectRefusal;
@@ -9,7 +10,7 @@ use rules::sheet::InspectRefusal;
 pub const MOST_BYTES: usize = 64_520;
 
 // Why nothing is judged.
-#[derive(Clone, Copy)]
+#[derive(Clone, Copy, PartialEq, Eq, Debug)]
 pub enum InputRefusal {
     // There are more than MOST_BYTES bytes.
     TooLong,
@@ -17,17 +18,35 @@ pub enum InputRefusal {
     Image(ImageRefusal),
 }
 
-impl InputRefusal {
-    pub fn number(self) -> u8
-        ensures { result ≡ input_refusal_number self }
-    {
-        match self {
+impl From<InspectRefusal> for InputRefusal {
+    ghost from_gives = { λ refusal input. input ≡ Sheet refusal };
+
+    fn from(refusal: InspectRefusal) -> InputRefusal {
+        InputRefusal::Sheet(refusal)
+    }
+}
+
+impl From<ImageRefusal> for InputRefusal {
+    ghost from_gives = { λ refusal input. input ≡ Image refusal };
+
+    fn from(refusal: ImageRefusal) -> InputRefusal {
+        InputRefusal::Image(refusal)
+    }
+}
+
+impl From<InputRefusal> for u8 {
+    ghost from_gives = { λ refusal number. number ≡ input_refusal_number refusal };
+
+    fn from(refusal: InputRefusal) -> u8 {
+        match refusal {
             InputRefusal::TooLong => 13,
-            InputRefusal::Sheet(refusal) => refusal.number(),
-            InputRefusal::Image(refusal) => refusal.number(),
+            InputRefusal::Sheet(refusal) => refusal.into(),
+            InputRefusal::Image(refusal) => refusal.into(),
         }
     }
+}
 
+impl InputRefusal {
     // The row or the event that is refused.
     pub fn carried(self) -> Option<usize>
         ensures { result ≡ input_carried self }
@@ -60,22 +79,18 @@ pub fn split(bytes: &[u8]) -> (&[u8], &[u8])
     bytes.split_at(sheet_end(bytes))
 }
 
-// Why an input of so many bytes is not judged, if it is not.
-pub fn refusal(
+// Refuses an input of so many bytes if it is too long, else if its sheet is refused, else if its image is.
+pub fn check_input(
     length: usize,
     inspected: Result<(), InspectRefusal>,
     checked: Result<(), ImageRefusal>,
-) -> Option<InputRefusal>
-    ensures { result ≡ input_refusal length inspected checked }
+) -> Result<(), InputRefusal>
+    ensures { result ≡ input_answer length inspected checked }
 {
     if length > MOST_BYTES {
-        return Some(InputRefusal::TooLong);
+        return Err(InputRefusal::TooLong);
     }
-    if let Err(refusal) = inspected {
-        return Some(InputRefusal::Sheet(refusal));
-    }
-    if let Err(refusal) = checked {
-        return Some(InputRefusal::Image(refusal));
-    }
-    None
+    inspected?;
+    checked?;
+    Ok(())
 }

@@ -24,7 +24,7 @@ impl fmt::Display for Line {
             Verdict::Open(origin) => {
                 let row = origin.row;
                 let place = origin.place;
-                let cause = origin.cause.number();
+                let cause = u8::from(origin.cause);
                 write!(f, "{rule} open {row} {place} {cause}")
             }
         }
@@ -35,9 +35,8 @@ impl fmt::Display for InputRefusal {
     ghost output = { λ refusal. Some (refusal_line refusal) };
 
     fn fmt<W: fmt::Write>(&self, f: &mut fmt::Formatter<W>) -> fmt::Result {
-        let refusal = *self;
-        let number = refusal.number();
-        match refusal.carried() {
+        let number = u8::from(*self);
+        match self.carried() {
             None => write!(f, "refused {number}"),
             Some(carried) => write!(f, "refused {number} {carried}"),
         }

@@ -1,6 +1,6 @@
 -- The rows in the bytes of a sheet are those whose heads and numbers stand there.
-use Rattle.std.proofs.Common.{◌≡◌, ℕ, zero, suc, ◌+◌, ◌<◌, Bool, true, false, cond, eqb, List, [], ◌∷◌, length, get_or, Some, None, Option, sym, refl, ap, ◌∙◌, add-zero, arith}
-use Rattle.std.proofs.lemmas.Bool.{and_from, eq-eqb, eqb-true}
+use Rattle.std.proofs.Common.{◌≡◌, ℕ, zero, suc, ◌+◌, ◌<◌, Bool, true, false, cond, List, [], ◌∷◌, length, get_or, Some, None, Option, sym, refl, ap, ◌∙◌, add-zero, arith}
+use Rattle.std.proofs.lemmas.Bool.{and_from, eq-eqb}
 use Rattle.rules.specs.declared.raw.RawRow.{RawRow}
 use Rattle.rules.specs.declared.row.Row.{Row}
 use Rattle.rules.specs.declared.row.Row.TheVariants.{Not}
@@ -11,7 +11,6 @@ use Rattle.rules.specs.Forest.{rules_of, written}
 use Rattle.rules.specs.Wanted.{first_bad}
 use Rattle.rules.specs.Layout.{sized, rule_count, row_count, raw_at, rows_from, rows_of, rules_wanted, settled, broken}
 use Rattle.rules.specs.Exact.{Spells, Exact}
-use Rattle.rules.proofs.Options.{absent}
 use Rattle.rules.proofs.Coded.{coded_stands}
 use Rattle.rules.proofs.Taken.{taken_stands}
 
@@ -58,15 +57,10 @@ module _ (bs : List ℕ) (n : ℕ) where
   rows_stand i zero long j h = absurd (omega arith)
   rows_stand i (suc left) long j h = by_head i left (rows_stand (i + 1) left) (decoded (raw_at bs n i)) refl long j h
 
-whole : (n m : ℕ) → ◌≡◌ {A = Option ℕ} (cond (eqb m n) None (Some m)) None → (b : Bool) → eqb m n ≡ b → m ≡ n
-whole n m e true q = eqb-true m n q
-whole n m e false q = absent m (ap (λ c. cond c None (Some m)) (sym q) ∙ e)
-
 unbroken : (n : ℕ) (xs : List Row) (b : Bool) (o : Option ℕ) → cond b (settled n xs o) (Some 0) ≡ None → (b ≡ true) × (o ≡ None) × (length xs ≡ n)
-unbroken n xs true None e = (refl, refl, whole n (length xs) e (eqb (length xs) n) refl)
-unbroken n xs true (Some k) e = absent k e
-unbroken n xs false None e = absent 0 e
-unbroken n xs false (Some k) e = absent 0 e
+unbroken n xs true None e = (refl, refl, grind arith)
+unbroken n xs true (Some k) e = absurd (cc)
+unbroken n xs false o e = absurd (cc)
 
 module _ (bs : List ℕ) (ps : List Property) (s : Spells bs ps) where
   rows_same : rows_of bs ≡ written ps

@@ -1,7 +1,8 @@
 -- Rows and rules counted down.
 use Rattle.std.proofs.Common.{◌≡◌, ℕ, suc, ◌+◌, ◌-◌, ◌<◌, ◌≤◌, List, [], ◌∷◌, length, drop, Some, None, Option, Result, sym, ap, ◌∙◌, arith}
-use Rattle.std.proofs.lemmas.List.{drop_more, drop_all}
+use Rattle.std.proofs.lemmas.List.{drop_more}
 use Rattle.rules.specs.declared.row.Row.{Row}
+use Rattle.rules.specs.declared.sheet.InspectRefusal.{InspectRefusal}
 use Rattle.rules.specs.Decoded.{decoded}
 use Rattle.rules.specs.Wanted.{Wanted, property, first_bad}
 use Rattle.rules.specs.Reading.{ReadAt, resumed}
@@ -29,23 +30,15 @@ module _ (bs : List ℕ) (n i m : ℕ) (h : i < m) where
   pub rules_more : rules_wanted (m - i) ≡ property [] ∷ rules_wanted (m - (i + 1))
   rules_more = ap rules_wanted one_more
 
-pub rows_end : (bs : List ℕ) (n i m : ℕ) → m ≤ i → rows_from bs n i (m - i) ≡ []
-rows_end bs n i m h = let z : m - i ≡ 0 = omega arith in ap (rows_from bs n i) z
-
 module _ (rows : List Row) (at i m : ℕ) where
   -- what is found where the rules from the i-th on are wanted
   abbrev Found : Option ℕ → Type 0
   Found o = first_bad at (drop at rows) (rules_wanted (m - i)) ≡ o
 
-  pub rule_read : (w : Wanted) (r : Result ℕ ℕ) → w ≡ property [] → i < m → ReadAt rows at w r → Found (resumed rows r (rules_wanted (m - (i + 1))))
+  pub rule_read : (w : Wanted) (r : Result ℕ InspectRefusal) → w ≡ property [] → i < m → ReadAt rows at w r → Found (resumed rows r (rules_wanted (m - (i + 1))))
   rule_read w r e h k = ap (first_bad at (drop at rows)) (rules_more [] 0 i m h ∙ ap (λ v. v ∷ rules_wanted (m - (i + 1))) (sym e)) ∙ k.same _
 
-  module _ (h : m ≤ i) where
-    none_wanted : rules_wanted (m - i) ≡ []
-    none_wanted = let z : m - i ≡ 0 = omega arith in ap rules_wanted z
-
-    pub rows_left : (d : Row) → at < length rows → Found (Some at)
-    rows_left d k = ap (first_bad at (drop at rows)) none_wanted ∙ ap (λ rs. first_bad at rs []) (drop_more rows at d k)
-
-    pub all_read : length rows ≤ at → Found None
-    all_read k = ap (first_bad at (drop at rows)) none_wanted ∙ ap (λ rs. first_bad at rs []) (drop_all at rows k)
+  pub rows_left : m ≤ i → (d : Row) → at < length rows → Found (Some at)
+  rows_left h d k =
+      let none : m - i ≡ 0 = omega arith in
+      ap (λ n. first_bad at (drop at rows) (rules_wanted n)) none ∙ ap (λ rs. first_bad at rs []) (drop_more rows at d k)

@@ -8,7 +8,7 @@ mod Decoding
 pub mod Taken
 mod Begun
 mod Coded
-mod Bytes
+pub mod Bytes
 mod Extents
 mod Reached
 pub mod Parts

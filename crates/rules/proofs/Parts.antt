@@ -4,7 +4,6 @@ use Rattle.std.proofs.lemmas.List.{length-append}
 use Rattle.std.proofs.lemmas.Bool.{and_from, and_parts, cases_lt, lt-ltb, ltb-true}
 use Rattle.rules.specs.declared.row.Row.{Row}
 use Rattle.rules.specs.declared.row.Row.TheVariants.{Not, Connect, Occurrence, Absence, Scope, Quantify, True, NotTest, Join, Compare, Constant, Time, Value, Number, Reckon}
-use Rattle.rules.proofs.Options.{false_true}
 use Rattle.rules.specs.declared.read.Part.{Part}
 use Rattle.rules.specs.declared.read.Part.TheVariants as part
 use Rattle.rules.specs.Trees.{Term, constant, time_of, value_of, number_of, reckon, Test, always, not_t, join, compare, Property, not_p, connect, occurrence, absence, scope, quantify, term_rows, test_rows, rows, Begins}
@@ -104,9 +103,9 @@ module _ (all : List Row) where
       ]
 
   is_test : (p : Part) → same_part part.Test p ≡ true → p ≡ part.Test
-  is_test part.Property h = false_true h
+  is_test part.Property h = absurd (cc)
   is_test part.Test h = refl
-  is_test part.Term h = false_true h
+  is_test part.Term h = absurd (cc)
 
   -- where a test begins, as a row says, its rows stand there
   pub test_stands : (rules : ℕ) → Writes all rules → (at : ℕ) → begins_test all at ≡ true → Begins all at (test_rows (test_at all at))

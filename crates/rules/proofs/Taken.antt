@@ -13,7 +13,7 @@ use Rattle.rules.specs.Layout.{rules_wanted}
 use Rattle.rules.specs.Reading.{Fits}
 use Rattle.rules.proofs.Forests.{reads_rules}
 use Rattle.rules.proofs.Grown.{Grown, grown}
-use Rattle.rules.proofs.Options.{absent, when_true}
+use Rattle.rules.proofs.Options.{when_true}
 
 -- rows that write so many rules, each well scoped
 pub record Writes (all : List Row) (rules : ℕ) : Type 0 where
@@ -117,13 +117,13 @@ grow w ws r rs (a ∷ b ∷ v ∷ vs) g c = absurd g
 
 cut_row : (at : ℕ) (r : Row) (rs : List Row) (w : Wanted) (ws : List Wanted) → ((vs : List Wanted) → first_bad (at + 1) rs vs ≡ None → Cut vs rs) →
     (o : Option (List Wanted)) → o ≡ followed w r → ◌≡◌ {A = Option ℕ} (elim o [ None ↦ Some at | Some more ↦ first_bad (at + 1) rs (more ++ ws) ]) None → Cut (w ∷ ws) (r ∷ rs)
-cut_row at r rs w ws later None q e = absent at e
+cut_row at r rs w ws later None q e = absurd (cc)
 cut_row at r rs w ws later (Some more) q e = grow w ws r rs more (grown w r (Some more) q) (later (more ++ ws) e)
 
 cut : (at : ℕ) (rs : List Row) (ws : List Wanted) → first_bad at rs ws ≡ None → Cut ws rs
 cut at [] [] e = refl
-cut at [] (w ∷ ws) e = absent at e
-cut at (r ∷ rs) [] e = absent at e
+cut at [] (w ∷ ws) e = absurd (cc)
+cut at (r ∷ rs) [] e = absurd (cc)
 cut at (r ∷ rs) (w ∷ ws) e = cut_row at r rs w ws (λ vs. cut (at + 1) rs vs) (followed w r) refl e
 
 rules_cut : (n : ℕ) (rs : List Row) → Cut (rules_wanted n) rs → (ps : List Property) × (length ps ≡ n) × (written ps ≡ rs) × (all_scoped ps ≡ true)

@@ -1,5 +1,7 @@
 -- What a sheet holds, and what its calls answer.
-use Rattle.std.specs.Prelude.{◌≡◌, ℕ, cond, List, take, Some, None, Ok, Err, Option, Result, nat_lt}
+use Rattle.std.specs.Prelude.{◌≡◌, ℕ, true, false, cond, List, length, Some, None, Ok, Err, Option, Result, nat_lt}
+use Rattle.lists.specs.ShortLists.{items}
+use Rattle.rules.specs.declared.layout.SheetBytes.{SheetBytes}
 use Rattle.rules.specs.declared.row.Row.{Row}
 use Rattle.rules.specs.declared.sheet.Sheet.{Sheet}
 use Rattle.rules.specs.declared.sheet.InspectRefusal.{InspectRefusal}
@@ -7,19 +9,19 @@ use Rattle.rules.specs.declared.sheet.InspectRefusal.TheVariants.{Layout}
 use Rattle.rules.specs.declared.sheet.ReachRefusal.{ReachRefusal}
 use Rattle.rules.specs.declared.sheet.ReachRefusal.TheVariants.{NoSuchRule}
 use Rattle.rules.specs.Trees.{reach_of}
-use Rattle.rules.specs.Layout.{rule_count, rows_of, broken}
-use Rattle.rules.specs.Written.{rule_at, start_of}
+use Rattle.rules.specs.Layout.{sized, rule_count, rows_of, broken}
+use Rattle.rules.specs.Written.{rule_at, started}
 
 -- how many rules, and all rows
 abbrev pub Held : Type 0
 Held = ℕ × List Row
 
 abbrev pub held : Sheet → Held
-held s = (s.rules, take s.count s.rows)
+held s = (length (items s.starts), items s.rows)
 
 -- where a rule starts, if there is such a rule
 abbrev pub start_in : Held → (rule : ℕ) → Option ℕ
-start_in s rule = cond (nat_lt rule s.0) (Some (start_of s.1 rule)) None
+start_in s rule = started s.0 s.1 rule
 
 -- the reach of a rule, if there is such a rule
 abbrev pub reach_in : Held → (rule : ℕ) → Result ℕ ReachRefusal
@@ -32,6 +34,11 @@ inspect_refusal_number (Layout row) = 6
 
 abbrev pub reach_refusal_number : ReachRefusal → ℕ
 reach_refusal_number NoSuchRule = 7
+
+-- bytes are as many as their counts say, or refused at the first row
+abbrev pub SizesTell : (bytes : List ℕ) → Result SheetBytes InspectRefusal → Type 0
+SizesTell bytes (Ok sheet) = (sized bytes ≡ true) × (sheet.bytes.now ≡ bytes)
+SizesTell bytes (Err refusal) = (sized bytes ≡ false) × (refusal ≡ Layout 0)
 
 abbrev pub answer_to : Option ℕ → Result (Unit {0}) InspectRefusal
 answer_to None = Ok tt

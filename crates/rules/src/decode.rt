@@ -1,9 +1,12 @@
 // One row read from its head and its number.
 ghost use Rattle.std.specs.Prelude.{◌≡◌};
-ghost use Rattle.rules.specs.Decoded.{when, bare, blank, only_number, only_name, only_variable, only_code, pick_of, duration_allowed, occurrence_of, scope_of, decoded};
+ghost use Rattle.std.specs.Result.{result_ok};
+ghost use Rattle.rules.specs.Decoded.{bare, blank, only_number, only_name, only_variable, only_code, pick_of, duration_allowed, occurrence_of, scope_of, decoded};
 
 use crate::raw::RawRow;
-use crate::row::{Connective, Junction, Operation, Pick, Quantifier, Relation, Row, Side};
+use crate::row::{
+    Connective, Junction, Operation, Pick, Quantifier, Relation, Row, Side, Undefined,
+};
 
 // The row of a kind that names no field.
 fn bare_row(kind: u8) -> Option<Row>
@@ -53,68 +56,18 @@ fn bare_row(kind: u8) -> Option<Row>
     }
 }
 
-fn pick_of(number: u8) -> Option<Pick>
-    ensures { result ≡ pick_of number }
-{
-    match number {
-        1 => Some(Pick::First),
-        2 => Some(Pick::Last),
-        3 => Some(Pick::Each),
-        _ => None,
-    }
-}
+impl TryFrom<u8> for Pick {
+    type Error = Undefined;
 
-fn kept(test: bool, row: Row) -> Option<Row>
-    ensures { result ≡ when test row }
-{
-    if test { Some(row) } else { None }
-}
+    ghost try_from_gives = { λ number pick. result_ok pick ≡ pick_of number };
 
-// No field named.
-fn blank_fields(raw: RawRow) -> bool
-    ensures { result ≡ blank raw }
-{
-    raw.a == 0 && raw.b == 0 && raw.c == 0 && raw.number == 0
-}
-
-// Only the number named.
-fn number_field(raw: RawRow) -> bool
-    ensures { result ≡ only_number raw }
-{
-    raw.a == 0 && raw.b == 0 && raw.c == 0
-}
-
-// Only a name named.
-fn name_field(raw: RawRow) -> bool
-    ensures { result ≡ only_name raw }
-{
-    raw.a > 0 && raw.b == 0 && raw.c == 0 && raw.number == 0
-}
-
-// Only a variable named.
-fn variable_field(raw: RawRow) -> bool
-    ensures { result ≡ only_variable raw }
-{
-    raw.b == 0 && raw.c == 0 && raw.number == 0
-}
-
-// Only a variable and a code named.
-fn code_fields(raw: RawRow) -> bool
-    ensures { result ≡ only_code raw }
-{
-    raw.b > 0 && raw.c == 0 && raw.number == 0
-}
-
-fn occurrence(raw: RawRow) -> Option<Row>
-    ensures { result ≡ occurrence_of raw }
-{
-    if raw.a > 0 && raw.b == 0 && raw.c == 0 && raw.number >= 0 && raw.number <= 65535 {
-        Some(Row::Occurrence {
-            name: raw.a,
-            count: raw.number as u16,
-        })
-    } else {
-        None
+    fn try_from(number: u8) -> Result<Pick, Undefined> {
+        match number {
+            1 => Ok(Pick::First),
+            2 => Ok(Pick::Last),
+            3 => Ok(Pick::Each),
+            _ => Err(Undefined),
+        }
     }
 }
 
@@ -127,66 +80,112 @@ fn duration_allowed(side: Side, number: i32) -> bool
     }
 }
 
-fn scope(side: Side, raw: RawRow) -> Option<Row>
-    ensures { result ≡ scope_of side raw }
-{
-    match pick_of(raw.b) {
-        None => None,
-        Some(pick) => {
-            if raw.a > 0 && raw.c == 0 && duration_allowed(side, raw.number) {
-                Some(Row::Scope {
-                    side,
-                    pick,
-                    name: raw.a,
-                    duration: raw.number as u32,
-                })
+impl RawRow {
+    // No field named.
+    fn is_blank(self) -> bool
+        ensures { result ≡ blank self }
+    {
+        self.a == 0 && self.b == 0 && self.c == 0 && self.number == 0
+    }
+
+    fn names_only_number(self) -> bool
+        ensures { result ≡ only_number self }
+    {
+        self.a == 0 && self.b == 0 && self.c == 0
+    }
+
+    fn names_only_name(self) -> bool
+        ensures { result ≡ only_name self }
+    {
+        self.a > 0 && self.b == 0 && self.c == 0 && self.number == 0
+    }
+
+    fn names_only_variable(self) -> bool
+        ensures { result ≡ only_variable self }
+    {
+        self.b == 0 && self.c == 0 && self.number == 0
+    }
+
+    // Only a variable and a code named.
+    fn names_only_code(self) -> bool
+        ensures { result ≡ only_code self }
+    {
+        self.b > 0 && self.c == 0 && self.number == 0
+    }
+
+    fn occurrence(self) -> Option<Row>
+        ensures { result ≡ occurrence_of self }
+    {
+        let count = u16::try_from(self.number).ok()?;
+        (self.a > 0 && self.b == 0 && self.c == 0).then_some(Row::Occurrence {
+            name: self.a,
+            count,
+        })
+    }
+
+    fn scope(self, side: Side) -> Option<Row>
+        ensures { result ≡ scope_of side self }
+    {
+        let pick = Pick::try_from(self.b).ok()?;
+        let duration = u32::try_from(self.number).ok()?;
+        (self.a > 0 && self.c == 0 && duration_allowed(side, self.number)).then_some(Row::Scope {
+            side,
+            pick,
+            name: self.a,
+            duration,
+        })
+    }
+
+    // The row that a head and a number stand for, if they stand for one.
+    fn row(self) -> Option<Row>
+        ensures { result ≡ decoded self }
+    {
+        match self.kind {
+            5 => self.occurrence(),
+            6 => self
+                .names_only_name()
+                .then_some(Row::Absence { name: self.a }),
+            7 => self.scope(Side::After),
+            8 => self.scope(Side::Before),
+            9 => self.scope(Side::Given),
+            10 => self.names_only_code().then_some(Row::Quantify {
+                quantifier: Quantifier::Forall,
+                variable: self.a,
+                code: self.b,
+            }),
+            11 => self.names_only_code().then_some(Row::Quantify {
+                quantifier: Quantifier::Exists,
+                variable: self.a,
+                code: self.b,
+            }),
+            30 => self.names_only_number().then_some(Row::Constant {
+                number: self.number,
+            }),
+            31 => self
+                .names_only_variable()
+                .then_some(Row::Time { variable: self.a }),
+            32 => self.names_only_code().then_some(Row::Value {
+                variable: self.a,
+                code: self.b,
+            }),
+            33 => self
+                .names_only_variable()
+                .then_some(Row::Number { variable: self.a }),
+            kind => if self.is_blank() {
+                bare_row(kind)
             } else {
                 None
-            }
+            },
         }
     }
 }
 
-// The row that a head and a number stand for, if they stand for one.
-pub(crate) fn decode(raw: RawRow) -> Option<Row>
-    ensures { result ≡ decoded raw }
-{
-    match raw.kind {
-        5 => occurrence(raw),
-        6 => kept(name_field(raw), Row::Absence { name: raw.a }),
-        7 => scope(Side::After, raw),
-        8 => scope(Side::Before, raw),
-        9 => scope(Side::Given, raw),
-        10 => kept(
-            code_fields(raw),
-            Row::Quantify {
-                quantifier: Quantifier::Forall,
-                variable: raw.a,
-                code: raw.b,
-            },
-        ),
-        11 => kept(
-            code_fields(raw),
-            Row::Quantify {
-                quantifier: Quantifier::Exists,
-                variable: raw.a,
-                code: raw.b,
-            },
-        ),
-        30 => kept(number_field(raw), Row::Constant { number: raw.number }),
-        31 => kept(variable_field(raw), Row::Time { variable: raw.a }),
-        32 => kept(
-            code_fields(raw),
-            Row::Value {
-                variable: raw.a,
-                code: raw.b,
-            },
-        ),
-        33 => kept(variable_field(raw), Row::Number { variable: raw.a }),
-        kind => if blank_fields(raw) {
-            bare_row(kind)
-        } else {
-            None
-        },
+impl TryFrom<RawRow> for Row {
+    type Error = Undefined;
+
+    ghost try_from_gives = { λ raw row. result_ok row ≡ decoded raw };
+
+    fn try_from(raw: RawRow) -> Result<Row, Undefined> {
+        raw.row().ok_or(Undefined)
     }
 }

@@ -1,5 +1,5 @@
 // A row as it stands in the bytes of a sheet: its head of four bytes, and its number.
-#[derive(Clone, Copy)]
+#[derive(Clone, Copy, Debug, PartialEq, Eq)]
 pub struct RawRow {
     pub kind: u8,
     pub a: u8,

@@ -1,7 +1,7 @@
 // The rows that rules are written in, one after another in prefix order.
 
 // How two properties are joined.
-#[derive(Clone, Copy)]
+#[derive(Clone, Copy, Debug, PartialEq, Eq)]
 pub enum Connective {
     Or,
     And,
@@ -9,20 +9,20 @@ pub enum Connective {
 }
 
 // How two tests are joined.
-#[derive(Clone, Copy)]
+#[derive(Clone, Copy, Debug, PartialEq, Eq)]
 pub enum Junction {
     And,
     Or,
 }
 
-#[derive(Clone, Copy)]
+#[derive(Clone, Copy, Debug, PartialEq, Eq)]
 pub enum Quantifier {
     Forall,
     Exists,
 }
 
 // Which events a scope judges: those behind its delimiter, those before it, or all.
-#[derive(Clone, Copy)]
+#[derive(Clone, Copy, Debug, PartialEq, Eq)]
 pub enum Side {
     After,
     Before,
@@ -30,21 +30,21 @@ pub enum Side {
 }
 
 // Which of the events that match are delimiters.
-#[derive(Clone, Copy)]
+#[derive(Clone, Copy, Debug, PartialEq, Eq)]
 pub enum Pick {
     First,
     Last,
     Each,
 }
 
-#[derive(Clone, Copy)]
+#[derive(Clone, Copy, Debug, PartialEq, Eq)]
 pub enum Relation {
     Equal,
     Less,
     AtMost,
 }
 
-#[derive(Clone, Copy)]
+#[derive(Clone, Copy, Debug, PartialEq, Eq)]
 pub enum Operation {
     Sum,
     Difference,
@@ -53,7 +53,7 @@ pub enum Operation {
 }
 
 // A row with what it names. It stands before the properties, tests or terms that it is made of.
-#[derive(Clone, Copy)]
+#[derive(Clone, Copy, Debug, PartialEq, Eq)]
 pub enum Row {
     Not,
     Connect {
@@ -102,3 +102,7 @@ pub enum Row {
         operation: Operation,
     },
 }
+
+// Of bytes that stand for no row and for none of its fields.
+#[derive(Clone, Copy, Debug, PartialEq, Eq)]
+pub struct Undefined;

@@ -6,7 +6,7 @@ use meaning::verdict::Verdict;
 use reports::input::MOST_BYTES;
 use reports::line::Line;
 use reports::report::report;
-use rules::limits::{MOST_ROWS, MOST_RULES};
+use rules::limits::MOST_ROWS;
 use std::io;
 use std::io::Read;
 
@@ -19,9 +19,9 @@ fn read_input(rt: &HostRuntime) -> io::Result<Vec<u8>> {
     Ok(bytes)
 }
 
-// A line for each of the first rules.
-fn print_verdicts(rt: &HostRuntime, verdicts: &[Verdict], rules: usize) -> io::Result<()> {
-    for (rule, verdict) in verdicts.iter().take(rules).enumerate() {
+// A line for each rule.
+fn print_verdicts(rt: &HostRuntime, verdicts: &[Verdict]) -> io::Result<()> {
+    for (rule, verdict) in verdicts.iter().enumerate() {
         let verdict = *verdict;
         rt.println(Line { rule, verdict })?;
     }
@@ -31,9 +31,8 @@ fn print_verdicts(rt: &HostRuntime, verdicts: &[Verdict], rules: usize) -> io::R
 fn main(rt: HostRuntime) -> io::Result<()> {
     let bytes = read_input(&rt)?;
     let mut work = [JudgingRow::Negation; MOST_ROWS];
-    let mut verdicts = [Verdict::Holds; MOST_RULES];
-    match report(bytes.as_slice(), &mut work, &mut verdicts) {
-        Ok(rules) => print_verdicts(&rt, &verdicts, rules),
+    match report(bytes.as_slice(), &mut work) {
+        Ok(verdicts) => print_verdicts(&rt, verdicts.as_slice()),
         Err(refusal) => rt.println(refusal),
     }
 }

@@ -50,10 +50,8 @@ fn slot_in(used: bool, value: Value) -> bool
 fn slots_in(count: u8, slots: &[Value]) -> bool
     ensures { result ≡ slots_in count 0 slots.now }
 {
-    for (i, value) in slots.iter().enumerate() {
-        if !slot_in(i < count as usize, *value) {
-            return false;
-        }
-    }
-    true
+    slots
+        .iter()
+        .enumerate()
+        .all(|(i, value)| slot_in(i < count as usize, *value))
 }

@@ -1,9 +1,13 @@
 // The events in the bytes of an image.
-ghost use Rattle.std.specs.Prelude.{◌≡◌, ◌+◌, ◌*◌, ◌<◌, ◌≤◌, true, length};
+ghost use Rattle.std.specs.Prelude.{◌≡◌, ◌+◌, ◌*◌, ◌<◌, ◌≤◌, true, false, length, take, drop, OnOk, IfOk, IfErr};
 ghost use Rattle.logs.specs.Events.{slot_count};
-ghost use Rattle.logs.specs.Image.{body_width, event_width, Sizes, two, four, signed, sized, body_place, slot_place, slot_at, slot_laid, body_laid, held_at, good_event, lowest_bad, image_broken, image_events};
+ghost use Rattle.logs.specs.Image.{body_width, event_width, event_count, wrong_sizes, sized, body_place, slot_place, slot_at, slots_at, slot_laid, body_laid, time_held, former_time, held_at, good_at, lowest_bad};
+ghost use Rattle.logs.specs.Checked.{refused_by};
+ghost use Rattle.logs.specs.Taken.{image_taken};
+ghost use Rattle.logs.specs.declared.image.ImageRefusal.TheVariants.{Broken};
 
 use crate::event::{Event, SLOTS, Value};
+use crate::image::ImageRefusal;
 
 // The bytes of a slot, of a body, and of a time and a body.
 const SLOT_WIDTH: usize = 6;
@@ -12,138 +16,157 @@ const BODY_WIDTH: usize = 4 + SLOT_WIDTH * SLOTS;
 
 const EVENT_WIDTH: usize = 4 + BODY_WIDTH;
 
-fn two_at(bytes: &[u8], i: usize) -> u16
-    requires { i + 1 < length bytes.now }
-    ensures { result ≡ two bytes.now i }
+// The N bytes from a place on.
+fn bytes_at<const N: usize>(bytes: &[u8], place: usize) -> [u8; N]
+    requires { place + N ≤ length bytes.now }
+    ensures { result ≡ take N (drop place bytes.now) }
 {
-    u16::from_le_bytes([bytes[i], bytes[i + 1]])
+    *bytes[place..place + N].as_array().unwrap()
 }
 
-fn four_at(bytes: &[u8], i: usize) -> u32
-    requires { i + 3 < length bytes.now }
-    ensures { result ≡ four bytes.now i }
-{
-    u32::from_le_bytes([bytes[i], bytes[i + 1], bytes[i + 2], bytes[i + 3]])
+// All of an event but its time, from a place on.
+#[derive(Clone, Copy)]
+struct Body<'a> {
+    bytes: &'a [u8],
+    place: usize,
+    ghost fits: { place + body_width ≤ length bytes.now },
 }
 
-fn signed_at(bytes: &[u8], i: usize) -> i32
-    requires { i + 3 < length bytes.now }
-    ensures { result ≡ signed bytes.now i }
-{
-    i32::from_le_bytes([bytes[i], bytes[i + 1], bytes[i + 2], bytes[i + 3]])
-}
+impl Body<'_> {
+    fn slot_place(&self, k: usize) -> usize
+        requires { k < slot_count }
+        ensures { result ≡ slot_place self.now.place k }
+    {
+        self.place + 4 + SLOT_WIDTH * k
+    }
 
-fn slot_at(bytes: &[u8], body: usize, k: usize) -> Value
-    requires { (k < slot_count) × (body + body_width ≤ length bytes.now) }
-    ensures { result ≡ slot_at bytes.now (slot_place body k) }
-{
-    let place = body + 4 + SLOT_WIDTH * k;
-    let code = bytes[place];
-    if bytes[place + 1] == 1 {
-        Value::Read {
-            code,
-            number: signed_at(bytes, place + 2),
+    fn slot(&self, k: usize) -> Value
+        requires { k < slot_count }
+        ensures { result ≡ slot_at self.now.bytes.now (slot_place self.now.place k) }
+    {
+        let place = self.slot_place(k);
+        let code = self.bytes[place];
+        if self.bytes[place + 1] == 1 {
+            let number = i32::from_le_bytes(bytes_at(self.bytes, place + 2));
+            Value::Read { code, number }
+        } else {
+            Value::Unread { code }
         }
-    } else {
-        Value::Unread { code }
+    }
+
+    fn slots(&self) -> [Value; SLOTS]
+        ensures { result ≡ slots_at self.now.bytes.now self.now.place }
+    {
+        std::array::from_fn(|k| self.slot(k))
+    }
+
+    fn is_slot_laid(&self, k: usize) -> bool
+        requires { k < slot_count }
+        ensures { result ≡ slot_laid self.now.bytes.now (slot_place self.now.place k) }
+    {
+        let place = self.slot_place(k);
+        let state = self.bytes[place + 1];
+        state == 1 || (state == 0 && u32::from_le_bytes(bytes_at(self.bytes, place + 2)) == 0)
+    }
+
+    fn is_laid(&self) -> bool
+        ensures { result ≡ body_laid self.now.bytes.now self.now.place }
+    {
+        u16::from_le_bytes(bytes_at(self.bytes, self.place + 2)) == 0
+            && (0..SLOTS).all(|k| self.is_slot_laid(k))
     }
 }
 
-fn slot_laid(bytes: &[u8], body: usize, k: usize) -> bool
-    requires { (k < slot_count) × (body + body_width ≤ length bytes.now) }
-    ensures { result ≡ slot_laid bytes.now (slot_place body k) }
-{
-    let place = body + 4 + SLOT_WIDTH * k;
-    let state = bytes[place + 1];
-    state == 1 || (state == 0 && four_at(bytes, place + 2) == 0)
+// An image whose bytes are as many as its count says.
+#[derive(Clone, Copy)]
+pub(crate) struct Image<'a> {
+    pub(crate) bytes: &'a [u8],
+    pub(crate) count: u16,
+    ghost whole: { length bytes.now ≡ 4 + event_width * count },
 }
 
-fn body_laid(bytes: &[u8], body: usize) -> bool
-    requires { body + body_width ≤ length bytes.now }
-    ensures { result ≡ body_laid bytes.now body }
-{
-    two_at(bytes, body + 2) == 0
-        && slot_laid(bytes, body, 0)
-        && slot_laid(bytes, body, 1)
-        && slot_laid(bytes, body, 2)
-        && slot_laid(bytes, body, 3)
-}
-
-fn body_place(count: u16, i: u16) -> usize
-    ensures { result ≡ body_place count i }
-{
-    4 + 4 * count as usize + BODY_WIDTH * i as usize
-}
-
-// The event that the bytes hold at a place.
-pub(crate) fn event_at(bytes: &[u8], count: u16, i: u16) -> Event
-    requires { (i < count) × (length bytes.now ≡ 4 + event_width * count) }
-    ensures { result ≡ held_at bytes.now count i }
-{
-    let body = body_place(count, i);
-    Event {
-        time: four_at(bytes, 4 + 4 * i as usize),
-        name: bytes[body],
-        count: bytes[body + 1],
-        slots: [
-            slot_at(bytes, body, 0),
-            slot_at(bytes, body, 1),
-            slot_at(bytes, body, 2),
-            slot_at(bytes, body, 3),
-        ],
-    }
-}
-
-// Whether an event with this body is well laid, within its bounds, and not before the former time.
-fn is_good(bytes: &[u8], body: usize, event: &Event, former: u32) -> bool
-    requires { body + body_width ≤ length bytes.now }
-    ensures { result ≡ good_event bytes.now body former event.now }
-{
-    body_laid(bytes, body) && event.in_bounds() && former <= event.time
-}
-
-fn lowest_bad(bytes: &[u8], count: u16) -> Option<u16>
-    requires { length bytes.now ≡ 4 + event_width * count }
-    ensures { result ≡ lowest_bad bytes.now count 0 count }
-{
-    let mut former = 0;
-    for i in 0..count {
-        let event = event_at(bytes, count, i);
-        if !is_good(bytes, body_place(count, i), &event, former) {
-            return Some(i);
+impl<'a> Image<'a> {
+    fn new(bytes: &'a [u8]) -> Result<Image<'a>, ImageRefusal>
+        ensures bytes { IfOk result (λ image. image.bytes.now ≡ bytes.now) }
+        ensures count { IfOk result (λ image. image.count ≡ event_count bytes.now) }
+        ensures sized { OnOk result (sized bytes.now ≡ true) }
+        ensures refused { IfErr result (λ r. (r ≡ Broken wrong_sizes) × (sized bytes.now ≡ false)) }
+    {
+        if bytes.len() >= 4 && u16::from_le_bytes(bytes_at(bytes, 2)) as usize == BODY_WIDTH {
+            let count = u16::from_le_bytes(bytes_at(bytes, 0));
+            if bytes.len() == 4 + EVENT_WIDTH * count as usize {
+                return Ok(Image { bytes, count });
+            }
         }
-        former = event.time;
+        Err(ImageRefusal::Broken { event: 65535 })
     }
-    None
+
+    fn time(&self, i: u16) -> u32
+        requires { i < self.now.count }
+        ensures { result ≡ time_held self.now.bytes.now i }
+    {
+        u32::from_le_bytes(bytes_at(self.bytes, 4 + 4 * i as usize))
+    }
+
+    // The time of the event before, or 0.
+    fn former_time(&self, i: u16) -> u32
+        requires { i < self.now.count }
+        ensures { result ≡ former_time self.now.bytes.now i }
+    {
+        if i == 0 { 0 } else { self.time(i - 1) }
+    }
+
+    fn body(&self, i: u16) -> Body<'a>
+        requires { i < self.now.count }
+        ensures bytes { result.bytes.now ≡ self.now.bytes.now }
+        ensures place { result.place ≡ body_place self.now.count i }
+    {
+        Body {
+            bytes: self.bytes,
+            place: 4 + 4 * self.count as usize + BODY_WIDTH * i as usize,
+        }
+    }
+
+    pub(crate) fn event(&self, i: u16) -> Event
+        requires { i < self.now.count }
+        ensures { result ≡ held_at self.now.bytes.now self.now.count i }
+    {
+        let body = self.body(i);
+        Event {
+            time: self.time(i),
+            name: self.bytes[body.place],
+            count: self.bytes[body.place + 1],
+            slots: body.slots(),
+        }
+    }
+
+    // Whether an event is well laid, within its bounds, and not before the former time.
+    fn is_good(&self, i: u16) -> bool
+        requires { i < self.now.count }
+        ensures { result ≡ good_at self.now.bytes.now self.now.count i }
+    {
+        let event = self.event(i);
+        self.body(i).is_laid() && event.in_bounds() && self.former_time(i) <= event.time
+    }
+
+    // Refuses the lowest event that is not good.
+    fn check(&self) -> Result<(), ImageRefusal>
+        ensures { result ≡ refused_by (lowest_bad self.now.bytes.now self.now.count 0 self.now.count) }
+    {
+        for i in 0..self.count {
+            if !self.is_good(i) {
+                return Err(ImageRefusal::Broken { event: i });
+            }
+        }
+        Ok(())
+    }
 }
 
-// Whether the bytes are as many as their count says.
-fn well_sized(bytes: &[u8]) -> bool
-    ensures same { result ≡ sized bytes.now }
-    ensures sizes { result ≡ true → Sizes bytes.now }
+// How many events the bytes hold, or why they are not taken.
+pub(crate) fn taken(bytes: &[u8]) -> Result<u16, ImageRefusal>
+    ensures { result ≡ image_taken bytes.now }
 {
-    bytes.len() >= 4
-        && two_at(bytes, 2) as usize == BODY_WIDTH
-        && bytes.len() == 4 + EVENT_WIDTH * two_at(bytes, 0) as usize
-}
-
-// The lowest bad event, or 65535 if the sizes are wrong.
-pub(crate) fn broken(bytes: &[u8]) -> Option<u16>
-    ensures { result ≡ image_broken bytes.now }
-{
-    if !well_sized(bytes) {
-        return Some(65535);
-    }
-    lowest_bad(bytes, two_at(bytes, 0))
-}
-
-// How many events an image means, given where it is broken.
-pub(crate) fn taken_count(bytes: &[u8], bad: Option<u16>) -> u16
-    requires { bad ≡ image_broken bytes.now }
-    ensures { result ≡ length (image_events bytes.now) }
-{
-    match bad {
-        None => two_at(bytes, 0),
-        Some(_) => 0,
-    }
+    let image = Image::new(bytes)?;
+    image.check()?;
+    Ok(image.count)
 }

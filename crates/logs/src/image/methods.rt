@@ -4,14 +4,15 @@ ghost use Rattle.logs.specs.Checked.{image_bytes, image_answer, image_refusal_nu
 ghost use Rattle.logs.specs.Exact.{Exact};
 ghost use Rattle.logs.specs.Image.{image_events};
 
-use crate::image::layout::{broken, taken_count};
+use crate::image::layout::taken;
 use crate::image::{ImageLog, ImageRefusal};
 
-impl ImageRefusal {
-    pub fn number(self) -> u8
-        ensures { result ≡ image_refusal_number self }
-    {
-        match self {
+// The number that a report gives.
+impl From<ImageRefusal> for u8 {
+    ghost from_gives = { λ refusal n. n ≡ image_refusal_number refusal };
+
+    fn from(refusal: ImageRefusal) -> u8 {
+        match refusal {
             ImageRefusal::Broken { .. } => 12,
         }
     }
@@ -24,11 +25,9 @@ impl<'a> ImageLog<'a> {
         ensures meaning { image_events (image_bytes result) ≡ image_events bytes.now }
         ensures exact { Exact }
     {
-        let bad = broken(bytes);
         ImageLog {
             bytes,
-            count: taken_count(bytes, bad),
-            bad,
+            taken: taken(bytes),
         }
     }
 
@@ -36,9 +35,6 @@ impl<'a> ImageLog<'a> {
     pub fn check(&self) -> Result<(), ImageRefusal>
         ensures { result ≡ image_answer (image_bytes self.now) }
     {
-        match self.bad {
-            None => Ok(()),
-            Some(event) => Err(ImageRefusal::Broken { event }),
-        }
+        self.taken.map(|_| ())
     }
 }

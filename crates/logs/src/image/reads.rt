@@ -6,7 +6,7 @@ ghost use Rattle.logs.specs.ImageLaws.{image_lawful};
 
 use crate::event::Event;
 use crate::image::ImageLog;
-use crate::image::layout::event_at;
+use crate::image::layout::Image;
 use crate::log::ReadingLog;
 
 impl<'a> ReadingLog for ImageLog<'a> {
@@ -17,7 +17,7 @@ impl<'a> ReadingLog for ImageLog<'a> {
     ghost laws = { λ log. image_lawful (image_bytes log) log.few };
 
     fn len(&self) -> u16 {
-        self.count
+        self.taken.unwrap_or(0)
     }
 
     fn limit(&self) -> u16 {
@@ -25,8 +25,13 @@ impl<'a> ReadingLog for ImageLog<'a> {
     }
 
     fn get(&self, place: u16) -> Option<Event> {
-        if place < self.count {
-            return Some(event_at(self.bytes, self.count, place));
+        let count = self.len();
+        if place < count {
+            let image = Image {
+                bytes: self.bytes,
+                count,
+            };
+            return Some(image.event(place));
         }
         None
     }

@@ -5,28 +5,28 @@ ghost use Rattle.rules.specs.Trees.{Test, Begins, test_rows};
 ghost use Rattle.rules.specs.Forest.{test_at};
 ghost use Rattle.rules.specs.Written.{start_of, begins_test};
 
-use crate::layout::{check_rules, decode_rows, pair_at, well_sized};
-use crate::limits::{MOST_ROWS, MOST_RULES};
+use crate::layout::SheetBytes;
 use crate::reach::property_rows;
-use crate::read::is_test_at;
+use crate::read::{check_rules, is_test_at};
 use crate::row::Row;
 use crate::sheet::{InspectRefusal, ReachRefusal, Sheet};
+use lists::ShortList;
 
-impl InspectRefusal {
-    pub fn number(self) -> u8
-        ensures { result ≡ inspect_refusal_number self }
-    {
-        match self {
+impl From<InspectRefusal> for u8 {
+    ghost from_gives = { λ refusal number. number ≡ inspect_refusal_number refusal };
+
+    fn from(refusal: InspectRefusal) -> u8 {
+        match refusal {
             InspectRefusal::Layout { .. } => 6,
         }
     }
 }
 
-impl ReachRefusal {
-    pub fn number(self) -> u8
-        ensures { result ≡ reach_refusal_number self }
-    {
-        match self {
+impl From<ReachRefusal> for u8 {
+    ghost from_gives = { λ refusal number. number ≡ reach_refusal_number refusal };
+
+    fn from(refusal: ReachRefusal) -> u8 {
+        match refusal {
             ReachRefusal::NoSuchRule => 7,
         }
     }
@@ -38,38 +38,24 @@ impl Sheet {
         ensures { held result ≡ (0, []) }
     {
         Sheet {
-            rows: [Row::Not; MOST_ROWS],
-            count: 0,
-            starts: [0; MOST_RULES],
-            rules: 0,
+            rows: ShortList::new(Row::Not),
+            starts: ShortList::new(0),
         }
     }
 
     // Takes the sheet that the bytes are, or keeps the former one.
+    #[tactic(auto, using(crate::proofs::Bytes::exact_stands, crate::proofs::Bytes::rows_allowed))]
     pub fn inspect(&mut self, bytes: &[u8]) -> Result<(), InspectRefusal>
         ensures whole { Inspected bytes.now (held self.old) (held self.new) result }
         ensures exact { Exact }
     {
-        if !well_sized(bytes) {
-            return Err(InspectRefusal::Layout { row: 0 });
+        let sheet = SheetBytes::try_from(bytes)?;
+        let rows = sheet.rows();
+        let starts = check_rules(rows.as_slice(), sheet.rules)?;
+        if rows.len() < sheet.count {
+            return Err(InspectRefusal::Layout { row: rows.len() });
         }
-        let rules = pair_at(bytes, 0);
-        let count = pair_at(bytes, 2);
-        let mut rows = [Row::Not; MOST_ROWS];
-        let front = decode_rows(bytes, count, &mut rows);
-        let mut starts = [0; MOST_RULES];
-        if let Some(row) = check_rules(&rows[0..front], rules, &mut starts) {
-            return Err(InspectRefusal::Layout { row });
-        }
-        if front < count {
-            return Err(InspectRefusal::Layout { row: front });
-        }
-        *self = Sheet {
-            rows,
-            count,
-            starts,
-            rules,
-        };
+        *self = Sheet { rows, starts };
         Ok(())
     }
 
@@ -77,13 +63,13 @@ impl Sheet {
     pub fn rules(&self) -> usize
         ensures { result ≡ (held self.now).0 }
     {
-        self.rules
+        self.starts.len()
     }
 
     pub fn rows(&self) -> &[Row]
         ensures { result.now ≡ (held self.now).1 }
     {
-        &self.rows[0..self.count]
+        self.rows.as_slice()
     }
 
     // Whether a test begins at a row. Its rows then stand there whole; and where rows of a test stand, it begins.
@@ -99,11 +85,7 @@ impl Sheet {
     pub fn start(&self, rule: usize) -> Option<usize>
         ensures { result ≡ start_in (held self.now) rule }
     {
-        if rule < self.rules {
-            Some(self.starts[rule])
-        } else {
-            None
-        }
+        self.starts.get(rule)
     }
 
     // The row behind the last row of a rule.
@@ -113,21 +95,14 @@ impl Sheet {
         ensures onward { start_of (held self.now).1 rule ≤ result }
         ensures within { result ≤ length (held self.now).1 }
     {
-        if rule + 1 < self.rules {
-            self.starts[rule + 1]
-        } else {
-            self.count
-        }
+        self.starts.get(rule + 1).unwrap_or(self.rows.len())
     }
 
     // How many property rows a rule has.
     pub fn reach(&self, rule: usize) -> Result<usize, ReachRefusal>
         ensures { result ≡ reach_in (held self.now) rule }
     {
-        if rule < self.rules {
-            Ok(property_rows(&self.rows()[self.starts[rule]..self.behind(rule)]))
-        } else {
-            Err(ReachRefusal::NoSuchRule)
-        }
+        let start = self.start(rule).ok_or(ReachRefusal::NoSuchRule)?;
+        Ok(property_rows(&self.rows()[start..self.behind(rule)]))
     }
 }

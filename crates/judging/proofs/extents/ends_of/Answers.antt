@@ -1,11 +1,8 @@
-use Rattle.std.proofs.Common.{◌≡◌, ◌+◌, ◌-◌, ◌<◌, length, sym, refl, subst, arith}
+use Rattle.std.proofs.Common.{◌≡◌, ◌+◌, ◌-◌, ◌<◌, length, sym, subst, arith}
 use Rattle.std.proofs.lemmas.List.{length-set}
 use Rattle.judging.specs.Extents.{EndsAt}
 use Rattle.judging.proofs.Endings.{EndsFrom, end_next, ends_more}
 use Rattle.judging.proofs.extents.ends_of.Goals as goal
-
-pub loop-i-init : goal.loop-i-init
-loop-i-init c = (refl, λ j h k s. absurd (omega arith))
 
 pub loop-i-preserved : goal.loop-i-preserved
 loop-i-preserved c =
@@ -24,6 +21,3 @@ loop-i-preserved c =
       ends_more rs ends i c.end_of.result room later
           (λ s. subst (EndsAt rs i) (sym c.end_of.ensures) (end_next rs ends i _ later within s c.parts.result (sym c.parts.ensures))),
     )
-
-pub returns : goal.returns
-returns c = record { long = c.loop-i.invariant.0; at = λ i h s. c.loop-i.invariant.1 i (omega arith) h s }

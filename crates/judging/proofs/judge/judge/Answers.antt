@@ -1,48 +1,40 @@
-use Rattle.std.proofs.Common.{◌<◌, ◌≤◌, [], length, sym, ◌∙◌, subst, ap₂}
-use Rattle.rules.specs.Sheets.{held}
-use Rattle.rules.proofs.Sheets.{rows_few}
+use Rattle.std.proofs.Common.{◌≡◌, ◌≤◌, length, Some, Ok, arith}
+use Rattle.rules.specs.Sheets.{held, start_in, reach_in}
 use Rattle.meaning.proofs.Wording.{wording}
 use Rattle.meaning.proofs.Durations.{contiguous}
-use Rattle.judging.specs.Machine.{judged_at, Standing}
-use Rattle.judging.proofs.Rules.{started, reached, unstarted, too_few, stands, enough}
+use Rattle.judging.proofs.Rules.{stands, answers}
 use Rattle.judging.proofs.judge.judge.Goals as goal
 
-pub returns-in_default : goal.returns-in_default
-returns-in_default g c =
-    let es = g.L.ReadingLog.events c.args.log.now in
-    record { answer = unstarted es c.args.sheet.now c.args.rule _ c.in_default.ensures; wording = wording; contiguous = contiguous }
+pub returns-in_err-at-clause-wording : goal.returns-in_err-at-clause-wording
+returns-in_err-at-clause-wording g c = wording
 
-pub returns-then-work-reach : goal.returns-then-work-reach
-returns-then-work-reach g c =
-    let es = g.L.ReadingLog.events c.args.log.now in
-    let s = c.args.sheet.now in
-    let room = length c.args.work.now in
-    let here = (started es s c.args.rule room _ c.in-Some.ensures).0 in
-    record {
-      answer = too_few es s c.args.rule room here (subst (λ r. room < r) (reached es s c.args.rule room _ c.in-Ok.ensures) c.if-work-reach.true);
-      wording = wording;
-      contiguous = contiguous;
-    }
+pub returns-in_err-at-clause-contiguous : goal.returns-in_err-at-clause-contiguous
+returns-in_err-at-clause-contiguous g c = contiguous
+
+pub returns-then-work-reach-clause-wording : goal.returns-then-work-reach-clause-wording
+returns-then-work-reach-clause-wording g c = wording
+
+pub returns-then-work-reach-clause-contiguous : goal.returns-then-work-reach-clause-contiguous
+returns-then-work-reach-clause-contiguous g c = contiguous
 
 pub run-requires : goal.run-requires
 run-requires g c =
-    let es = g.L.ReadingLog.events c.args.log.now in
     let s = c.args.sheet.now in
-    let room = length c.args.work.now in
-    let at = started es s c.args.rule room _ c.in-Some.ensures in
-    let most = subst (λ r. r ≤ room) (reached es s c.args.rule room _ c.in-Ok.ensures) c.if-work-reach.false in
-    let k = subst (λ i. Standing (held s).1 0 i 0 room) (sym at.1) (stands es s c.args.rule room at.0 most) in
-    record { few = subst (λ rs. length rs ≤ 64) (sym c.rows.ensures) (rows_few s); stands = subst (λ rs. Standing rs 0 c.in-Some.at 0 room) (sym c.rows.ensures) k }
+    let at : start_in (held s) c.args.rule ≡ Some c.in_ok-at.at = cc c.in_ok-at.ensures.ok_part in
+    let reach : reach_in (held s) c.args.rule ≡ Ok c.in_ok-reach.reach = cc c.in_ok-reach.was in
+    let enough : c.in_ok-reach.reach ≤ length c.args.work.now = omega arith in
+    record { stands = rw (c.new.ensures.rows, c.rows.ensures) (stands s c.args.rule _ _ _ at reach enough) }
 
-pub returns : goal.returns
-returns g c =
-    let es = g.L.ReadingLog.events c.args.log.now in
+pub returns-clause-answer : goal.returns-clause-answer
+returns-clause-answer g c =
     let s = c.args.sheet.now in
-    let room = length c.args.work.now in
-    let at = started es s c.args.rule room _ c.in-Some.ensures in
-    let most = subst (λ r. r ≤ room) (reached es s c.args.rule room _ c.in-Ok.ensures) c.if-work-reach.false in
-    record {
-      answer = enough es s c.args.rule room at.0 most _ (c.run.ensures ∙ ap₂ (λ rs i. judged_at es rs [] (0, length es) i) c.rows.ensures at.1);
-      wording = wording;
-      contiguous = contiguous;
-    }
+    let at : start_in (held s) c.args.rule ≡ Some c.in_ok-at.at = cc c.in_ok-at.ensures.ok_part in
+    let reach : reach_in (held s) c.args.rule ≡ Ok c.in_ok-reach.reach = cc c.in_ok-reach.was in
+    let enough : c.in_ok-reach.reach ≤ length c.args.work.now = omega arith in
+    answers s c.args.rule _ _ _ at reach enough _ _ (rw (c.new.ensures.log, c.new.ensures.rows, c.rows.ensures) at c.run.ensures)
+
+pub returns-clause-wording : goal.returns-clause-wording
+returns-clause-wording g c = wording
+
+pub returns-clause-contiguous : goal.returns-clause-contiguous
+returns-clause-contiguous g c = contiguous

@@ -1,9 +1,6 @@
-use Rattle.std.proofs.Common.{◌≡◌, ◌-◌, ◌≤◌}
+use Rattle.std.proofs.Common.{◌≡◌, max}
 use Rattle.meaning.specs.Terms.{coded_from}
 use Rattle.judging.proofs.slots.next_coded.Given as goal
 
-abbrev pub invariant-loop-i : goal.invariant-loop-i
-invariant-loop-i l = (l.from ≤ l.i) × (coded_from l.code l.event l.from ≡ coded_from l.code l.event l.i)
-
-abbrev pub decreases-loop-i : goal.decreases-loop-i
-decreases-loop-i l = 4 - l.i
+abbrev pub invariant-loop-slot : goal.invariant-loop-slot
+invariant-loop-slot l = coded_from l.code l.event l.from ≡ coded_from l.code l.event (max l.from l.slot)

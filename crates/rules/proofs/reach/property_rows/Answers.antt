@@ -1,19 +1,16 @@
-use Rattle.std.proofs.Common.{◌≡◌, ℕ, ◌+◌, ◌≤◌, Bool, true, false, cond, sym, ap, ◌∙◌, arith}
-use mir.Val.{bool_byte}
-use Rattle.std.proofs.lemmas.List.{at_drop_more, at_drop_all}
-use Rattle.rules.specs.declared.row.Row.TheVariants.{Not}
-use Rattle.rules.specs.Reach.{property_rows}
+use Rattle.std.proofs.Common.{◌≡◌, ◌+◌, cond, List, ◌∷◌, refl, sym, ◌∙◌, arith, rules, tests}
+use Rattle.std.proofs.lemmas.Iterator.{YieldsList-from_slice}
+use Rattle.std.proofs.lemmas.Iterator.Consumers.{YieldsList-from_filter, count_from_yields_List}
+use Rattle.std.proofs.lemmas.List.Sums.{length-filter}
+use Rattle.std.proofs.lemmas.List.Recursion.{is_count_by}
+use Rattle.rules.specs.declared.row.Row.{Row}
+use Rattle.rules.specs.Reach.{is_property, property_rows}
 use Rattle.rules.proofs.reach.property_rows.Goals as goal
 
--- one more row counted
-counted : (b : Bool) (n i later whole : ℕ) → n ≤ i → n + (cond b 1 0 + later) ≡ whole → (n + bool_byte b ≤ i + 1) × (n + bool_byte b + later ≡ whole)
-counted true n i later whole h e = (omega arith, omega arith)
-counted false n i later whole h e = (omega arith, omega arith)
-
-pub loop-row-preserved : goal.loop-row-preserved
-loop-row-preserved c =
-    let more = at_drop_more property_rows c.args.rows.now c.loop-row.row-index Not c.loop-row-test.true in
-    rw c.is_property.ensures (counted _ _ _ _ _ c.loop-row.invariant.0 (ap (λ n. c.loop-row.count + n) (sym more) ∙ c.loop-row.invariant.1))
+one_more : (row : Row) (rows : List Row) → property_rows (row ∷ rows) ≡ cond (is_property row) (1 + property_rows rows) (property_rows rows)
+one_more row rows = grind arith
 
 pub returns : goal.returns
-returns c = let all = at_drop_all property_rows c.args.rows.now c.loop-row.row-index c.loop-row-test.false in omega arith
+returns c =
+    count_from_yields_List c.filter.result _ c.count.ensures.ran (YieldsList-from_filter _ is_property (YieldsList-from_slice c.args.rows.now cc) c.filter.ensures.closure (λ x b q k. search (rules, tests)))
+    ∙ (length-filter is_property c.args.rows.now ∙ sym (is_count_by property_rows is_property refl one_more c.args.rows.now))

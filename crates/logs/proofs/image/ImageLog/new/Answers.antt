@@ -1,14 +1,10 @@
-use Rattle.std.proofs.Common.{arith, rules}
+use Rattle.std.proofs.Common.{arith}
 use Rattle.logs.proofs.Holding.{exact_stands}
-use Rattle.logs.proofs.Taken.{same_self}
+use Rattle.logs.proofs.Taken.{length-image_events-le}
 use Rattle.logs.proofs.image.ImageLog.new.Goals as goal
 
-pub invariant_of-result : goal.invariant_of-result
-invariant_of-result c = record {
-  counted = c.taken_count.ensures;
-  few = omega (arith, c.taken_count.ensures);
-  found = same_self _ _ c.broken-bad.ensures;
-}
+pub invariant_of-result-clause-few : goal.invariant_of-result-clause-few
+invariant_of-result-clause-few c = omega (arith, length-image_events-le c.args.bytes.now, c.type_inv.bytes 0, c.type_inv.bytes 1)
 
-pub returns : goal.returns
-returns c = record { image = search rules; meaning = search rules; exact = exact_stands }
+pub returns-clause-exact : goal.returns-clause-exact
+returns-clause-exact c = exact_stands

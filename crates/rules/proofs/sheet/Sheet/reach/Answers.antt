@@ -1,5 +1,6 @@
-use Rattle.std.proofs.Common.{◌≡◌, ℕ, ◌+◌, ◌-◌, ◌<◌, List, take, drop, Ok, ap, ◌∙◌}
-use Rattle.std.proofs.lemmas.Bool.{lt-ltb}
+use Rattle.std.proofs.Common.{◌≡◌, ℕ, ◌+◌, ◌-◌, ◌<◌, List, take, drop, Ok, sym, ap, ◌∙◌}
+use Rattle.std.proofs.lemmas.Bool.{ltb-true}
+use Rattle.std.proofs.lemmas.Option.{cond_some}
 use Rattle.rules.specs.declared.row.Row.{Row}
 use Rattle.rules.specs.declared.sheet.Sheet.{Sheet}
 use Rattle.rules.specs.Trees.{reach_of}
@@ -16,8 +17,7 @@ between : (s : Sheet) (i : ℕ) → i < (held s).0 → (all : List Row) (from to
     property_rows (take (to - from) (drop from all)) ≡ reach_of (rule_at (held s).1 i)
 between s i h all from to e f g = rw (e, f, g) (ap property_rows (rows_between (held s).1 (held s).0 (sheet_writes s) i h) ∙ reached (rule_at (held s).1 i))
 
-pub returns-then-rule-self : goal.returns-then-rule-self
-returns-then-rule-self c =
-    let sheet = c.args.self.now in
-    let within = c.if-rule-self.true in
-    rw (lt-ltb _ _ within) (ap Ok (c.property_rows.ensures ∙ between sheet c.args.rule within _ _ _ c.rows.ensures (sheet.begun c.args.rule within) c.behind.ensures.next))
+pub returns : goal.returns
+returns c =
+    let start = cond_some _ _ _ (sym c.start.ensures ∙ c.in_ok-start.ensures.ok_part) in
+    rw start.0 (ap Ok (c.property_rows.ensures ∙ between c.args.self.now c.args.rule (ltb-true _ _ start.0) _ _ _ c.rows.ensures (sym start.1) c.behind.ensures.next))

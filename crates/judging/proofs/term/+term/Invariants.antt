@@ -1,5 +1,0 @@
-use Rattle.std.proofs.Common.{◌-◌, length}
-use Rattle.judging.proofs.term.+term.Given as goal
-
-abbrev pub decreases-term : goal.decreases-term
-decreases-term l = length l.rows.now - l.at
