@@ -221,19 +221,20 @@ module _ (es : List Event) (rs : List Row) where
   -- one turn from p on, after which q stands: from a row, from a verdict that a row waits for,
   -- from the places of a scope that are still to be tried, and from the values of a quantifier that are still to come
 
-  abbrev pub Nearer : Progress → Turn → Verdict → (turns : ℕ) → Type 0
-  Nearer q t v n = Onward es rs (room q.stack) (items q.known) t (held q.stack) v n
+  pub record Nearer (p q : Progress) (t : Turn) (v : Verdict) (turns : ℕ) : Type 0 where
+    pub space : room q.stack ≡ room p.stack
+    pub onward : Onward es rs (room q.stack) (items q.known) t (held q.stack) v turns
 
   abbrev pub OnwardAsked : Progress → (at : ℕ) → Window → Progress → Turn → Type 0
-  OnwardAsked p at w q t = Nearer q t (worth es rs (items p.known) (Ask at w) (held p.stack)) (turns_left rs (Ask at w) (held p.stack))
+  OnwardAsked p at w q t = Nearer p q t (worth es rs (items p.known) (Ask at w) (held p.stack)) (turns_left rs (Ask at w) (held p.stack))
 
   abbrev pub OnwardTold : Progress → JudgingRow → Verdict → Progress → Turn → Type 0
-  OnwardTold p x v q t = Nearer q t (worth es rs (items p.known) (Told v) (x ∷ held p.stack)) (turns_left rs (Told v) (x ∷ held p.stack))
+  OnwardTold p x v q t = Nearer p q t (worth es rs (items p.known) (Told v) (x ∷ held p.stack)) (turns_left rs (Told v) (x ∷ held p.stack))
 
   abbrev pub OnwardTried : Progress → PlacesRow → Progress → Turn → Type 0
   OnwardTried p x q t =
-      Nearer q t (resume es rs (items p.known) (held p.stack) (sweeping es rs x.scoping (items p.known) x.window x.lowest x.verdict x.left)) (pending rs (Places x ∷ held p.stack))
+      Nearer p q t (resume es rs (items p.known) (held p.stack) (sweeping es rs x.scoping (items p.known) x.window x.lowest x.verdict x.left)) (pending rs (Places x ∷ held p.stack))
 
   abbrev pub OnwardValued : Progress → ValuesRow → Progress → Turn → Type 0
   OnwardValued p x q t =
-      Nearer q t (resume es rs (items p.known) (held p.stack) (gathering es rs x.quantifying (items p.known) x.window x.verdict x.next)) (pending rs (Values x ∷ held p.stack))
+      Nearer p q t (resume es rs (items p.known) (held p.stack) (gathering es rs x.quantifying (items p.known) x.window x.verdict x.next)) (pending rs (Values x ∷ held p.stack))

@@ -1,5 +1,5 @@
 // What a test is asked of.
-ghost use Rattle.std.specs.Prelude.{◌≡◌, slice_index_or};
+ghost use Rattle.std.specs.Prelude.{◌≡◌, ◌<◌, length, slice_index_or};
 ghost use Rattle.rules.specs.declared.row.Row.TheVariants.{Not};
 
 use meaning::verdict::Variable;
@@ -14,10 +14,10 @@ pub struct Question<'a> {
 }
 
 impl Question<'_> {
-    // The row that is numbered so; behind the last one there is a row of no term and no test.
-    pub(crate) fn row(self, at: usize) -> Row
-        ensures { result ≡ slice_index_or self.entry.rows.now at Not }
+    pub(crate) fn row(&self, at: usize) -> Row
+        requires { at < length self.now.rows.now }
+        ensures { result ≡ slice_index_or self.now.rows.now at Not }
     {
-        self.rows.get(at).copied().unwrap_or(Row::Not)
+        self.rows[at]
     }
 }

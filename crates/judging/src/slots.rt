@@ -19,10 +19,10 @@ pub(crate) fn number_of(value: Value) -> Result<i32, Cause>
 pub(crate) fn next_coded(event: &Event, code: u8, from: usize) -> Option<(usize, Value)>
     ensures { NextCoded event.now code from result }
 {
-    let slots: &[Value] = &event.slots;
-    for (slot, value) in slots.iter().enumerate() {
-        if from <= slot && slot < event.count as usize && value.code() == code {
-            return Some((slot, *value));
+    for slot in from..event.slots.len().min(event.count as usize) {
+        let value = event.slots[slot];
+        if value.code() == code {
+            return Some((slot, value));
         }
     }
     None

@@ -50,29 +50,29 @@ fn reckon(operation: Operation, x: i32, y: i32) -> Result<i32, Cause>
 
 impl Question<'_> {
     // What the term at a row lacks by itself has its origin there.
-    fn blame(self, row: usize, number: Result<i32, Cause>) -> Result<i32, Origin>
-        ensures { result ≡ blamed self.entry.place row number }
+    fn blame(&self, row: usize, number: Result<i32, Cause>) -> Result<i32, Origin>
+        ensures { result ≡ blamed self.now.place row number }
     {
         let place = self.place;
         number.map_err(|cause| Origin { row, place, cause })
     }
 
     fn combine(
-        self,
+        &self,
         row: usize,
         operation: Operation,
         x: Result<i32, Origin>,
         y: Result<i32, Origin>,
     ) -> Result<i32, Origin>
-        ensures { result ≡ strict self.entry.place row operation x y }
+        ensures { result ≡ strict self.now.place row operation x y }
     {
         self.blame(row, reckon(operation, x?, y?))
     }
 
     // The number of the term whose rows begin at `at`, and the row behind it.
-    pub(crate) fn term(self, at: usize) -> (Result<i32, Origin>, usize)
-        requires { (t : Term) × Begins self.rows.now at (term_rows t) }
-        ensures { (t : Term) → Begins self.entry.rows.now at (term_rows t) → TermAt self.entry.known.now self.entry.place at t result }
+    pub(crate) fn term(&self, at: usize) -> (Result<i32, Origin>, usize)
+        requires { (t : Term) × Begins self.now.rows.now at (term_rows t) }
+        ensures { (t : Term) → Begins self.now.rows.now at (term_rows t) → TermAt self.now.known.now self.now.place at t result }
     {
         match self.row(at) {
             Row::Constant { number } => (Ok(number), at + 1),

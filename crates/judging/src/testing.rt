@@ -31,9 +31,9 @@ fn compare(
 
 impl Question<'_> {
     // The answer of the test whose rows begin at `at`, and the row behind it.
-    pub(crate) fn test(self, at: usize) -> (Verdict, usize)
-        requires { (t : Test) × Begins self.rows.now at (test_rows t) }
-        ensures { (t : Test) → Begins self.entry.rows.now at (test_rows t) → TestAt self.entry.known.now self.entry.place at t result }
+    pub(crate) fn test(&self, at: usize) -> (Verdict, usize)
+        requires { (t : Test) × Begins self.now.rows.now at (test_rows t) }
+        ensures { (t : Test) → Begins self.now.rows.now at (test_rows t) → TestAt self.now.known.now self.now.place at t result }
     {
         match self.row(at) {
             Row::True => (Verdict::Holds, at + 1),

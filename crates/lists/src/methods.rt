@@ -6,7 +6,7 @@ ghost use Rattle.lists.specs.Pushing.{pushed, with_item};
 use crate::{Full, ShortList};
 
 impl<T: Copy, const N: usize> ShortList<T, N> {
-    // An empty list. The other item stands where none does, and is never seen.
+    // An empty list. `unused` fills the places where no item stands, and is never seen.
     pub fn new(unused: T) -> ShortList<T, N>
         ensures { items result ≡ [] }
     {

@@ -1,5 +1,5 @@
 mod Lowest
-mod Sized
+pub mod Sized
 mod Taken
 mod Bodies
 mod Holding

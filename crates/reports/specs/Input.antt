@@ -32,13 +32,13 @@ input_carried (Image (Broken event)) = Some event
 
 -- refused if it is too long, else if its sheet is refused, else if its image is
 
-abbrev pub image_taken : Result (Unit {0}) ImageRefusal → Result (Unit {0}) InputRefusal
-image_taken (Ok u) = Ok u
-image_taken (Err refusal) = Err (Image refusal)
+abbrev pub image_admitted : Result (Unit {0}) ImageRefusal → Result (Unit {0}) InputRefusal
+image_admitted (Ok u) = Ok u
+image_admitted (Err refusal) = Err (Image refusal)
 
-abbrev pub sheet_taken : Result (Unit {0}) InspectRefusal → (other : Result (Unit {0}) InputRefusal) → Result (Unit {0}) InputRefusal
-sheet_taken (Ok u) other = other
-sheet_taken (Err refusal) other = Err (Sheet refusal)
+abbrev pub sheet_admitted : Result (Unit {0}) InspectRefusal → (other : Result (Unit {0}) InputRefusal) → Result (Unit {0}) InputRefusal
+sheet_admitted (Ok u) other = other
+sheet_admitted (Err refusal) other = Err (Sheet refusal)
 
 abbrev pub input_answer : (size : ℕ) → Result (Unit {0}) InspectRefusal → Result (Unit {0}) ImageRefusal → Result (Unit {0}) InputRefusal
-input_answer size inspected checked = cond (nat_lt most_bytes size) (Err TooLong) (sheet_taken inspected (image_taken checked))
+input_answer size inspected checked = cond (nat_lt most_bytes size) (Err TooLong) (sheet_admitted inspected (image_admitted checked))

@@ -5,6 +5,7 @@ use Rattle.lists.specs.ShortLists.{items}
 use Rattle.logs.specs.declared.event.Event.{Event}
 use Rattle.logs.specs.Checked.{image_answer}
 use Rattle.logs.specs.Image.{image_events}
+use Rattle.rules.specs.Limits.{most_rules}
 use Rattle.rules.specs.Layout.{broken, rule_count, rows_of}
 use Rattle.rules.specs.Sheets.{Held, answer_to}
 use Rattle.meaning.specs.declared.verdict.Verdict.{Verdict}
@@ -39,6 +40,6 @@ abbrev pub report_answer : List ℕ → Result (List Verdict) InputRefusal
 report_answer bs = unless_refused (admitted bs) (verdicts_of (events_in bs) (sheet_in bs))
 
 -- what an answer says
-abbrev pub told : Result (ShortList Verdict 16) InputRefusal → Result (List Verdict) InputRefusal
+abbrev pub told : Result (ShortList Verdict most_rules) InputRefusal → Result (List Verdict) InputRefusal
 told (Ok verdicts) = Ok (items verdicts)
 told (Err refusal) = Err refusal

@@ -21,16 +21,16 @@ pub enum InputRefusal {
 impl From<InspectRefusal> for InputRefusal {
     ghost from_gives = { λ refusal input. input ≡ Sheet refusal };
 
-    fn from(refusal: InspectRefusal) -> InputRefusal {
-        InputRefusal::Sheet(refusal)
+    fn from(sheet: InspectRefusal) -> InputRefusal {
+        InputRefusal::Sheet(sheet)
     }
 }
 
 impl From<ImageRefusal> for InputRefusal {
     ghost from_gives = { λ refusal input. input ≡ Image refusal };
 
-    fn from(refusal: ImageRefusal) -> InputRefusal {
-        InputRefusal::Image(refusal)
+    fn from(image: ImageRefusal) -> InputRefusal {
+        InputRefusal::Image(image)
     }
 }
 

@@ -103,6 +103,6 @@ pub enum Row {
     },
 }
 
-// Of bytes that stand for no row and for none of its fields.
+// Why bytes are not taken: they stand for no row, or for no value of a field.
 #[derive(Clone, Copy, Debug, PartialEq, Eq)]
 pub struct Undefined;

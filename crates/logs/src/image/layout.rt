@@ -1,7 +1,7 @@
 // The events in the bytes of an image.
 ghost use Rattle.std.specs.Prelude.{◌≡◌, ◌+◌, ◌*◌, ◌<◌, ◌≤◌, true, false, length, take, drop, OnOk, IfOk, IfErr};
 ghost use Rattle.logs.specs.Events.{slot_count};
-ghost use Rattle.logs.specs.Image.{body_width, event_width, event_count, wrong_sizes, sized, body_place, slot_place, slot_at, slots_at, slot_laid, body_laid, time_held, former_time, held_at, good_at, lowest_bad};
+ghost use Rattle.logs.specs.Image.{slot_width, body_width, event_width, event_count, wrong_sizes, sized, body_place, slot_place, slot_at, slots_at, slot_laid, body_laid, time_held, held_at, good_event, lowest_bad};
 ghost use Rattle.logs.specs.Checked.{refused_by};
 ghost use Rattle.logs.specs.Taken.{image_taken};
 ghost use Rattle.logs.specs.declared.image.ImageRefusal.TheVariants.{Broken};
@@ -24,6 +24,35 @@ fn bytes_at<const N: usize>(bytes: &[u8], place: usize) -> [u8; N]
     *bytes[place..place + N].as_array().unwrap()
 }
 
+// The bytes of a value, from a place on.
+#[derive(Clone, Copy)]
+struct Slot<'a> {
+    bytes: &'a [u8],
+    place: usize,
+    ghost fits: { place + slot_width ≤ length bytes.now },
+}
+
+impl Slot<'_> {
+    fn value(&self) -> Value
+        ensures { result ≡ slot_at self.now.bytes.now self.now.place }
+    {
+        let code = self.bytes[self.place];
+        if self.bytes[self.place + 1] == 1 {
+            let number = i32::from_le_bytes(bytes_at(self.bytes, self.place + 2));
+            Value::Read { code, number }
+        } else {
+            Value::Unread { code }
+        }
+    }
+
+    fn is_laid(&self) -> bool
+        ensures { result ≡ slot_laid self.now.bytes.now self.now.place }
+    {
+        let state = self.bytes[self.place + 1];
+        state == 1 || (state == 0 && u32::from_le_bytes(bytes_at(self.bytes, self.place + 2)) == 0)
+    }
+}
+
 // All of an event but its time, from a place on.
 #[derive(Clone, Copy)]
 struct Body<'a> {
@@ -32,48 +61,29 @@ struct Body<'a> {
     ghost fits: { place + body_width ≤ length bytes.now },
 }
 
-impl Body<'_> {
-    fn slot_place(&self, k: usize) -> usize
+impl<'a> Body<'a> {
+    fn slot(&self, k: usize) -> Slot<'a>
         requires { k < slot_count }
-        ensures { result ≡ slot_place self.now.place k }
+        ensures bytes { result.bytes.now ≡ self.now.bytes.now }
+        ensures place { result.place ≡ slot_place self.now.place k }
     {
-        self.place + 4 + SLOT_WIDTH * k
-    }
-
-    fn slot(&self, k: usize) -> Value
-        requires { k < slot_count }
-        ensures { result ≡ slot_at self.now.bytes.now (slot_place self.now.place k) }
-    {
-        let place = self.slot_place(k);
-        let code = self.bytes[place];
-        if self.bytes[place + 1] == 1 {
-            let number = i32::from_le_bytes(bytes_at(self.bytes, place + 2));
-            Value::Read { code, number }
-        } else {
-            Value::Unread { code }
+        Slot {
+            bytes: self.bytes,
+            place: self.place + 4 + SLOT_WIDTH * k,
         }
     }
 
     fn slots(&self) -> [Value; SLOTS]
         ensures { result ≡ slots_at self.now.bytes.now self.now.place }
     {
-        std::array::from_fn(|k| self.slot(k))
-    }
-
-    fn is_slot_laid(&self, k: usize) -> bool
-        requires { k < slot_count }
-        ensures { result ≡ slot_laid self.now.bytes.now (slot_place self.now.place k) }
-    {
-        let place = self.slot_place(k);
-        let state = self.bytes[place + 1];
-        state == 1 || (state == 0 && u32::from_le_bytes(bytes_at(self.bytes, place + 2)) == 0)
+        std::array::from_fn(|k| self.slot(k).value())
     }
 
     fn is_laid(&self) -> bool
         ensures { result ≡ body_laid self.now.bytes.now self.now.place }
     {
         u16::from_le_bytes(bytes_at(self.bytes, self.place + 2)) == 0
-            && (0..SLOTS).all(|k| self.is_slot_laid(k))
+            && (0..SLOTS).all(|k| self.slot(k).is_laid())
     }
 }
 
@@ -101,64 +111,75 @@ impl<'a> Image<'a> {
         Err(ImageRefusal::Broken { event: 65535 })
     }
 
-    fn time(&self, i: u16) -> u32
+    // The bytes of an event.
+    pub(crate) fn at(&self, i: u16) -> EventBytes<'a>
         requires { i < self.now.count }
-        ensures { result ≡ time_held self.now.bytes.now i }
+        ensures bytes { result.image.bytes.now ≡ self.now.bytes.now }
+        ensures count { result.image.count ≡ self.now.count }
+        ensures i { result.i ≡ i }
     {
-        u32::from_le_bytes(bytes_at(self.bytes, 4 + 4 * i as usize))
-    }
-
-    // The time of the event before, or 0.
-    fn former_time(&self, i: u16) -> u32
-        requires { i < self.now.count }
-        ensures { result ≡ former_time self.now.bytes.now i }
-    {
-        if i == 0 { 0 } else { self.time(i - 1) }
-    }
-
-    fn body(&self, i: u16) -> Body<'a>
-        requires { i < self.now.count }
-        ensures bytes { result.bytes.now ≡ self.now.bytes.now }
-        ensures place { result.place ≡ body_place self.now.count i }
-    {
-        Body {
-            bytes: self.bytes,
-            place: 4 + 4 * self.count as usize + BODY_WIDTH * i as usize,
-        }
-    }
-
-    pub(crate) fn event(&self, i: u16) -> Event
-        requires { i < self.now.count }
-        ensures { result ≡ held_at self.now.bytes.now self.now.count i }
-    {
-        let body = self.body(i);
-        Event {
-            time: self.time(i),
-            name: self.bytes[body.place],
-            count: self.bytes[body.place + 1],
-            slots: body.slots(),
-        }
-    }
-
-    // Whether an event is well laid, within its bounds, and not before the former time.
-    fn is_good(&self, i: u16) -> bool
-        requires { i < self.now.count }
-        ensures { result ≡ good_at self.now.bytes.now self.now.count i }
-    {
-        let event = self.event(i);
-        self.body(i).is_laid() && event.in_bounds() && self.former_time(i) <= event.time
+        EventBytes { image: *self, i }
     }
 
     // Refuses the lowest event that is not good.
     fn check(&self) -> Result<(), ImageRefusal>
         ensures { result ≡ refused_by (lowest_bad self.now.bytes.now self.now.count 0 self.now.count) }
     {
+        let mut former = 0;
         for i in 0..self.count {
-            if !self.is_good(i) {
+            let bytes = self.at(i);
+            let event = bytes.event();
+            if !bytes.is_good(&event, former) {
                 return Err(ImageRefusal::Broken { event: i });
             }
+            former = event.time;
         }
         Ok(())
+    }
+}
+
+// The bytes of one event of an image.
+#[derive(Clone, Copy)]
+pub(crate) struct EventBytes<'a> {
+    image: Image<'a>,
+    i: u16,
+    ghost within: { i < image.count },
+}
+
+impl<'a> EventBytes<'a> {
+    fn time(&self) -> u32
+        ensures { result ≡ time_held self.now.image.bytes.now self.now.i }
+    {
+        u32::from_le_bytes(bytes_at(self.image.bytes, 4 + 4 * self.i as usize))
+    }
+
+    fn body(&self) -> Body<'a>
+        ensures bytes { result.bytes.now ≡ self.now.image.bytes.now }
+        ensures place { result.place ≡ body_place self.now.image.count self.now.i }
+    {
+        Body {
+            bytes: self.image.bytes,
+            place: 4 + 4 * self.image.count as usize + BODY_WIDTH * self.i as usize,
+        }
+    }
+
+    pub(crate) fn event(&self) -> Event
+        ensures { result ≡ held_at self.now.image.bytes.now self.now.image.count self.now.i }
+    {
+        let body = self.body();
+        Event {
+            time: self.time(),
+            name: body.bytes[body.place],
+            count: body.bytes[body.place + 1],
+            slots: body.slots(),
+        }
+    }
+
+    // Whether the event, as it is read here, is well laid, within its bounds, and not before the former time.
+    fn is_good(&self, event: &Event, former: u32) -> bool
+        ensures { result ≡ good_event self.now.image.bytes.now (body_place self.now.image.count self.now.i) former event.now }
+    {
+        self.body().is_laid() && event.in_bounds() && former <= event.time
     }
 }
 

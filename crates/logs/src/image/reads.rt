@@ -31,7 +31,7 @@ impl<'a> ReadingLog for ImageLog<'a> {
                 bytes: self.bytes,
                 count,
             };
-            return Some(image.event(place));
+            return Some(image.at(place).event());
         }
         None
     }

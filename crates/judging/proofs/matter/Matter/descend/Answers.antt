@@ -19,7 +19,7 @@ returns-in-Connect g c =
     let rows = c.args.self.now.rows.now in
     let s = held c.args.progress.now.stack in
     let ok = c.requires.ready in
-    record { onward = rw (c.suspend-in-Connect.ensures.known, c.suspend-in-Connect.ensures.waiting, c.suspend-in-Connect.ensures.space, c.len-depth.ensures) (from_connect es rows _ _ c.args.at c.args.window s ok Not c.in-Connect.is c.args.self.now.ended) }
+    record { onward = record { space = c.suspend-in-Connect.ensures.space; onward = rw (c.suspend-in-Connect.ensures.known, c.suspend-in-Connect.ensures.waiting, c.suspend-in-Connect.ensures.space, c.len-depth.ensures) (from_connect es rows _ _ c.args.at c.args.window s ok Not c.in-Connect.is c.args.self.now.ended) } }
 
 pub returns-in-Scope : goal.returns-in-Scope
 returns-in-Scope g c =
@@ -27,12 +27,12 @@ returns-in-Scope g c =
     let laws = g.L.ReadingLog.laws c.args.self.now.log.now in
     let few = laws.within in
     let small = laws.small in
-    record { onward = from_scope es c.args.self.now.rows.now _ _ c.args.at c.args.window _ c.requires.ready Not c.new.ensures c.in-Scope.is c.args.self.now.ended refl refl (omega arith) c.try_next.ensures.onward }
+    record { onward = record { space = c.try_next.ensures.onward.space; onward = from_scope es c.args.self.now.rows.now _ _ c.args.at c.args.window _ c.requires.ready Not c.new.ensures c.in-Scope.is c.args.self.now.ended refl refl (omega arith) c.try_next.ensures.onward.onward } }
 
 pub returns-in-Quantify : goal.returns-in-Quantify
 returns-in-Quantify g c =
     let es = g.L.ReadingLog.events c.args.self.now.log.now in
     let rows = c.args.self.now.rows.now in
     let ok = c.requires.ready in
-    let ready = quantify_ready es rows _ _ c.args.at c.args.window _ ok Not c.new-in-Quantify.ensures c.in-Quantify.is refl in
-    record { onward = from_quantify es rows _ _ c.args.at c.args.window _ ok Not c.new-in-Quantify.ensures c.in-Quantify.is refl (c.next_value.ensures.onward es rows (ready, ok.waits)) }
+    let next = c.next_value.ensures.onward es rows (quantify_ready es rows _ _ c.args.at c.args.window _ ok Not c.new-in-Quantify.ensures c.in-Quantify.is refl, ok.waits) in
+    record { onward = record { space = next.space; onward = from_quantify es rows _ _ c.args.at c.args.window _ ok Not c.new-in-Quantify.ensures c.in-Quantify.is refl next.onward } }
