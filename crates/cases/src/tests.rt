@@ -1,6 +1,7 @@
 // The worked cases as bytes: what is written of them, and what is refused.
 use judging::judge::judge;
 use judging::working::JudgingRow;
+use logs::event::Value;
 use logs::image::ImageLog;
 use logs::log::ReadingLog;
 use reports::line::Line;
@@ -13,16 +14,14 @@ use std::test::Fail;
 // The kind of a row, its fields a and b, and its number.
 type Raw = (u8, u8, u8, i32);
 
-// The value with code 7 of an event.
-#[derive(Clone, Copy)]
-enum Seven {
-    Absent,
-    Unread,
-    Read(i32),
-}
+// The time and the name of an event, and its value, of code 7, if it has one.
+type Noted = (u32, u8, Option<Value>);
 
-// The time and the name of an event, and its value.
-type Noted = (u32, u8, Seven);
+const UNREAD: Option<Value> = Some(Value::Unread { code: 7 });
+
+fn read(number: i32) -> Option<Value> {
+    Some(Value::Read { code: 7, number })
+}
 
 fn sheet_bytes(heap: Global, rules: u8, rows: &[Raw]) -> Result<Vec<u8>, Fail> {
     let count = u8::try_from(rows.len())?;
@@ -36,13 +35,13 @@ fn sheet_bytes(heap: Global, rules: u8, rows: &[Raw]) -> Result<Vec<u8>, Fail> {
     Ok(bytes)
 }
 
-fn slot(value: Seven) -> [u8; 6] {
+fn slot(value: Option<Value>) -> [u8; 6] {
     match value {
-        Seven::Absent => [0; 6],
-        Seven::Unread => [7, 0, 0, 0, 0, 0],
-        Seven::Read(number) => {
+        None => [0; 6],
+        Some(Value::Unread { code }) => [code, 0, 0, 0, 0, 0],
+        Some(Value::Read { code, number }) => {
             let [a, b, c, d] = number.to_le_bytes();
-            [7, 1, a, b, c, d]
+            [code, 1, a, b, c, d]
         }
     }
 }
@@ -54,11 +53,7 @@ fn image_bytes(heap: Global, events: &[Noted]) -> Result<Vec<u8>, Fail> {
         bytes.extend_from_slice(&event.0.to_le_bytes())?;
     }
     for event in events {
-        let used = if matches!(event.2, Seven::Absent) {
-            0
-        } else {
-            1
-        };
+        let used = u8::from(event.2.is_some());
         bytes.extend_from_slice(&[event.1, used, 0, 0])?;
         bytes.extend_from_slice(&slot(event.2))?;
         bytes.extend_from_slice(&[0; 18])?;
@@ -67,13 +62,8 @@ fn image_bytes(heap: Global, events: &[Noted]) -> Result<Vec<u8>, Fail> {
 }
 
 // The log of which place 2 has this value.
-fn log_with(value: Seven) -> [Noted; 4] {
-    [
-        (0, 1, Seven::Absent),
-        (5, 2, Seven::Read(3)),
-        (9, 2, value),
-        (12, 3, Seven::Absent),
-    ]
+fn log_with(value: Option<Value>) -> [Noted; 4] {
+    [(0, 1, None), (5, 2, read(3)), (9, 2, value), (12, 3, None)]
 }
 
 // So many events of name 2 whose value 7 equals 3.
@@ -158,15 +148,10 @@ fn over(heap: Global, rows: &[Raw], events: &[Noted], line: &str) -> Result<(), 
 #[test]
 fn occurrences(rt: HostRuntime) -> Result<(), Fail> {
     let heap = rt.alloc();
-    over(heap, &occurs_three(1), &log_with(Seven::Unread), "0 holds")?;
-    over(
-        heap,
-        &occurs_three(2),
-        &log_with(Seven::Unread),
-        "0 open 2 2 3",
-    )?;
-    over(heap, &occurs_three(2), &log_with(Seven::Read(3)), "0 holds")?;
-    over(heap, &occurs_three(2), &log_with(Seven::Read(4)), "0 fails")?;
+    over(heap, &occurs_three(1), &log_with(UNREAD), "0 holds")?;
+    over(heap, &occurs_three(2), &log_with(UNREAD), "0 open 2 2 3")?;
+    over(heap, &occurs_three(2), &log_with(read(3)), "0 holds")?;
+    over(heap, &occurs_three(2), &log_with(read(4)), "0 fails")?;
     over(heap, &occurs_three(0), &[], "0 holds")?;
     over(heap, &occurs_three(1), &[], "0 fails")
 }
@@ -174,12 +159,12 @@ fn occurrences(rt: HostRuntime) -> Result<(), Fail> {
 #[test]
 fn scopes(rt: HostRuntime) -> Result<(), Fail> {
     let heap = rt.alloc();
-    let unread = log_with(Seven::Unread);
+    let unread = log_with(UNREAD);
     over(heap, &followed(), &unread, "0 holds")?;
     over(heap, &followed(), &[], "0 holds")?;
     over(heap, &last_three(), &unread, "0 open 2 2 3")?;
-    over(heap, &last_three(), &log_with(Seven::Read(3)), "0 holds")?;
-    over(heap, &last_three(), &log_with(Seven::Read(4)), "0 fails")?;
+    over(heap, &last_three(), &log_with(read(3)), "0 holds")?;
+    over(heap, &last_three(), &log_with(read(4)), "0 fails")?;
     over(heap, &two_within(9), &unread, "0 fails")?;
     over(heap, &two_within(10), &unread, "0 holds")?;
     let none_before = [(8, 3, 1, 0), (20, 0, 0, 0), (6, 1, 0, 0), (20, 0, 0, 0)];
@@ -189,7 +174,7 @@ fn scopes(rt: HostRuntime) -> Result<(), Fail> {
 #[test]
 fn quotients(rt: HostRuntime) -> Result<(), Fail> {
     let heap = rt.alloc();
-    let log = log_with(Seven::Unread);
+    let log = log_with(UNREAD);
     over(heap, &divides(-7, 2, -3), &log, "0 holds")?;
     over(heap, &divides(-7, 2, -4), &log, "0 fails")?;
     over(heap, &divides(i32::MIN, -1, 0), &log, "0 open 2 0 4")?;
@@ -199,7 +184,7 @@ fn quotients(rt: HostRuntime) -> Result<(), Fail> {
 #[test]
 fn refused_sheets(rt: HostRuntime) -> Result<(), Fail> {
     let heap = rt.alloc();
-    let log = log_with(Seven::Unread);
+    let log = log_with(UNREAD);
     let rule = occurs_three(1);
     let mut short = sheet_bytes(heap, 1, &rule)?;
     let _ = short.pop();
@@ -223,7 +208,7 @@ fn refused_sheets(rt: HostRuntime) -> Result<(), Fail> {
 fn refused_images(rt: HostRuntime) -> Result<(), Fail> {
     let heap = rt.alloc();
     let rule = occurs_three(1);
-    let mut log = log_with(Seven::Unread);
+    let mut log = log_with(UNREAD);
     log[2].0 = 4;
     log[3].0 = 3;
     over(heap, &rule, &log, "refused 12 2")?;
@@ -241,7 +226,7 @@ fn refusal(sheet: &Sheet, log: &ImageLog, rule: usize, work: &mut [JudgingRow]) 
 #[test]
 fn refused_judgings(rt: HostRuntime) -> Result<(), Fail> {
     let heap = rt.alloc();
-    let image = image_bytes(heap, &log_with(Seven::Unread))?;
+    let image = image_bytes(heap, &log_with(UNREAD))?;
     let log = ImageLog::new(image.as_slice());
     let mut sheet = Sheet::new();
     let rows = [

@@ -1,11 +1,12 @@
 -- Answers counted one by one are counted as a whole.
-use Rattle.std.proofs.Common.{◌≡◌, ℕ, zero, suc, ◌+◌, ◌-◌, ◌≤◌, Bool, true, cond, ltb, leb, List, [], ◌∷◌, length, None, Option, unwrap_or, ◌≢◌, refl, ap, zero-add, arith}
+use Rattle.std.proofs.Common.{◌≡◌, ℕ, suc, ◌+◌, ◌-◌, ◌≤◌, Bool, true, cond, ltb, leb, List, [], ◌∷◌, length, None, Option, unwrap_or, ◌≢◌, zero-add, arith}
 use Rattle.std.proofs.lemmas.Bool.Decides.{nat_tests}
 use Rattle.meaning.specs.declared.verdict.Origin.{Origin}
 use Rattle.meaning.specs.declared.verdict.Verdict.{Verdict}
 use Rattle.meaning.specs.declared.verdict.Verdict.TheVariants.{Holds, Fails, Open}
 use Rattle.meaning.specs.Three.{holds?, possible?, count, origin_or, at_least3}
-use Rattle.meaning.specs.Windows.{upfrom, places}
+use Rattle.meaning.specs.Windows.{places}
+use Rattle.std.proofs.lemmas.List.FromFn.{length-range_with_len}
 use Rattle.judging.specs.declared.tally.Tally.{Tally}
 use Rattle.judging.specs.Tallies.{noted, open_by, weighed, unchanging, ending}
 
@@ -53,9 +54,5 @@ module _ {A : Type 0} (n : ℕ) (f : A → Verdict) where
       let b = count_few (λ x. possible? (f x)) xs in
       closing_certain n t _ _ left _ s.blamed (omega arith) (omega arith) h
 
-upfrom_many : (n i : ℕ) → length (upfrom i n) ≡ n
-upfrom_many zero i = refl
-upfrom_many (suc n) i = ap suc (upfrom_many n (i + 1))
-
 pub places_many : (from to : ℕ) → length (places from to) ≡ to - from
-places_many from to = upfrom_many (to - from) from
+places_many from to = length-range_with_len from (to - from)

@@ -4,7 +4,8 @@ use Rattle.std.proofs.lemmas.Bool.{cases_lt, lt-ltb, le-ltb}
 use Rattle.logs.specs.declared.event.Event.{Event}
 use Rattle.logs.specs.Lawful.{NeverFalls, time_at}
 use Rattle.meaning.specs.Three.{count}
-use Rattle.meaning.specs.Windows.{places, upfrom, near}
+use Rattle.meaning.specs.Windows.{places, near}
+use Rattle.std.specs.List.{range_with_len}
 use Rattle.meaning.proofs.Durations.{never_falls, counted, count_empty}
 
 -- the times before `low` are below the limit, and those from `high` on are not
@@ -50,7 +51,7 @@ halved_end t limit from to low high h done = ⊎_elim some none (cases_lt from t
     none : to ≤ from → low ≡ from + count (λ j. ltb (t j) limit) (places from to)
     none m = h.empty m ∙ sym (count_empty (λ j. ltb (t j) limit) from to m)
 
-count_same : (p q : ℕ → Bool) → ((j : ℕ) → p j ≡ q j) → (n i : ℕ) → count p (upfrom i n) ≡ count q (upfrom i n)
+count_same : (p q : ℕ → Bool) → ((j : ℕ) → p j ≡ q j) → (n i : ℕ) → count p (range_with_len i n) ≡ count q (range_with_len i n)
 count_same p q e zero i = refl
 count_same p q e (suc n) i = grind (arith, e i, count_same p q e n (i + 1))
 

@@ -1,13 +1,22 @@
 -- A tree of one or two parts, from what is answered of each.
-use Rattle.std.proofs.Common.{◌≡◌, ℕ, suc, ◌+◌, List, ◌∷◌, ◌++◌, length, sym, ap, ◌∙◌, ap₂, arith}
+use Rattle.std.proofs.Common.{◌≡◌, ℕ, suc, ◌+◌, List, ◌∷◌, ◌++◌, length, get_or, sym, ap, ◌∙◌, ap₂, arith}
 use Rattle.std.proofs.lemmas.List.{length-append}
 use Rattle.rules.specs.declared.row.Row.{Row}
-use Rattle.rules.specs.Trees.{Begins}
-use Rattle.rules.proofs.Heads.{Parts}
+use Rattle.rules.specs.declared.row.Row.TheVariants.{Not}
+use Rattle.rules.specs.Trees.{Term, Test, Begins, term_rows, test_rows}
+use Rattle.rules.proofs.Heads.{Parts, TermBy, TestBy, term_by, test_by}
 use Rattle.judging.specs.Answers.{PartAt}
 
 behind : (at mid next : ℕ) (xs ys : List Row) → mid ≡ at + 1 + length xs → next ≡ mid + length ys → next ≡ at + suc (length (xs ++ ys))
 behind at mid next xs ys h k = simp length-append (omega arith)
+
+-- what the row d that was read at a row makes of the term, or of the test, that stands there
+module _ {all : List Row} {at : ℕ} {read d : Row} (looked : read ≡ get_or all at Not) (is : read ≡ d) where
+  pub term_here : (t : Term) → Begins all at (term_rows t) → TermBy all at d t
+  term_here t b = term_by all at Not d (sym looked ∙ is) t b
+
+  pub test_here : (t : Test) → Begins all at (test_rows t) → TestBy all at d t
+  test_here t b = test_by all at Not d (sym looked ∙ is) t b
 
 -- parts with the rows f of which `said` speaks
 module _ {A R : Type 0} (f : A → List Row) (said : ℕ → A → R) (all : List Row) where

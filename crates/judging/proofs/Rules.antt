@@ -1,5 +1,6 @@
 -- The rule that judge is asked for.
-use Rattle.std.proofs.Common.{◌≡◌, ℕ, ◌<◌, ◌≤◌, Bool, true, false, cond, List, [], length, Some, None, Ok, sym, refl, ap, ◌∙◌, arith}
+use Rattle.std.proofs.Common.{◌≡◌, ℕ, ◌<◌, ◌≤◌, List, [], length, Some, Ok, sym, refl, ap, ◌∙◌, arith}
+use Rattle.std.proofs.lemmas.Option.{cond_some}
 use Rattle.std.proofs.lemmas.Bool.{ltb-true, lt-ltb, le-ltb}
 use Rattle.logs.specs.declared.event.Event.{Event}
 use Rattle.rules.specs.declared.row.Row.{Row}
@@ -15,17 +16,13 @@ use Rattle.judging.specs.Judging.{judge_answer}
 use Rattle.judging.specs.Machine.{judged_at, Standing}
 use Rattle.judging.proofs.Turns.{standing, depth_reach}
 
-there : (b : Bool) (x y : ℕ) → cond b (Some x) None ≡ Some y → (b ≡ true) × (x ≡ y)
-there true x y e = (refl, cc)
-there false x y e = cc
-
 -- a rule that has a first row and a reach, and as many working rows
 module _ (s : Sheet) (rule room at reach : ℕ) (starts : start_in (held s) rule ≡ Some at) (reaches : reach_in (held s) rule ≡ Ok reach) (enough : reach ≤ room) where
   abbrev all : List Row
   all = (held s).1
 
   started : (rule < (held s).0) × (start_of all rule ≡ at)
-  started = let k = there _ _ _ starts in (ltb-true _ _ k.0, k.1)
+  started = let k = cond_some _ _ _ starts in (ltb-true _ _ k.0, k.1)
 
   few : reach_of (rule_at all rule) ≤ room
   few = let here = started.0 in let same = rw (lt-ltb rule (held s).0 here) at reaches in let e : reach_of (rule_at all rule) ≡ reach = cc in omega arith

@@ -6,7 +6,8 @@ use Rattle.rules.specs.declared.row.Pick.TheVariants.{First, Last, Each}
 use Rattle.meaning.specs.declared.verdict.Origin.{Origin}
 use Rattle.meaning.specs.declared.verdict.Verdict.{Verdict}
 use Rattle.meaning.specs.declared.verdict.Verdict.TheVariants.{Holds, Fails, Open}
-use Rattle.meaning.specs.Three.{not3, and3, implies3, all3, possible?, filter, first_open, settle}
+use Rattle.meaning.specs.Three.{not3, and3, implies3, all3, possible?, first_open, settle}
+use Rattle.std.specs.List.{filter}
 use Rattle.meaning.specs.Windows.{Window, places}
 use Rattle.meaning.specs.Verdicts.{delimits, blamed_on, scoped}
 use Rattle.meaning.proofs.Places.{places_next, and_holds, fails_and, apart, all_push, all_holds, fails_all}

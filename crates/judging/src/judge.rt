@@ -14,8 +14,8 @@ use rules::sheet::{ReachRefusal, Sheet};
 // Why a rule is not judged.
 #[derive(Clone, Copy, PartialEq, Eq, Debug)]
 pub enum JudgeRefusal {
-    NoSuchRule,
-    TooFewRows,
+    NoSuchRule = 7,
+    TooFewRows = 11,
 }
 
 impl From<ReachRefusal> for JudgeRefusal {
@@ -36,14 +36,12 @@ impl From<JudgeRefusal> for u8 {
     ghost from_gives = { λ refusal number. number ≡ judge_refusal_number refusal };
 
     fn from(refusal: JudgeRefusal) -> u8 {
-        match refusal {
-            JudgeRefusal::NoSuchRule => 7,
-            JudgeRefusal::TooFewRows => 11,
-        }
+        refusal as u8
     }
 }
 
 // The verdict of a rule over the whole log. The working rows may hold anything afterwards.
+#[tactic(auto, using(meaning::proofs::Wording::wording, meaning::proofs::Durations::contiguous))]
 pub fn judge<L: ReadingLog>(
     log: &L,
     sheet: &Sheet,

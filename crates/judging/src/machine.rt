@@ -6,7 +6,6 @@ ghost use Rattle.stacks.specs.Stacks.{held};
 use crate::combine::connect;
 use crate::matter::Matter;
 use crate::progress::Progress;
-use crate::sweep::{absorb, close, doubt};
 use crate::windows::cut;
 use crate::working::{JudgingRow, LeftRow, PlacesRow, Quantifying, Scoping, Turn, ValuesRow};
 use logs::log::ReadingLog;
@@ -21,12 +20,12 @@ impl<'a, L: ReadingLog> Matter<'a, L> {
         ensures onward { OnwardTried (L.events self.now.log.now) self.now.rows.now progress.old row progress.new result }
     {
         let depth = progress.known.len();
-        match self.seek(row.scoping, row.verdict, row.left, &mut progress.known) {
+        match self.seek(&row, &mut progress.known) {
             None => Turn::Told {
-                verdict: close(row.lowest, row.verdict),
+                verdict: row.ending(),
             },
             Some(found) => {
-                let lowest = doubt(row.scoping.pick, found.test, row.lowest);
+                let lowest = row.doubt(found.test);
                 progress.suspend(JudgingRow::Places(PlacesRow {
                     depth,
                     left: found.left,
@@ -55,7 +54,7 @@ impl<'a, L: ReadingLog> Matter<'a, L> {
         ensures onward { OnwardTold (L.events self.now.log.now) self.now.rows.now progress.old (JudgingRow.Places row) v progress.new result }
     {
         progress.known.truncate(row.depth);
-        match absorb(row.scoping.pick, row.test, row.lowest, row.verdict, v) {
+        match row.absorb(v) {
             Break(verdict) => Turn::Told { verdict },
             Continue(verdict) => self.try_next(PlacesRow { verdict, ..row }, progress),
         }
@@ -139,7 +138,7 @@ impl<'a, L: ReadingLog> Matter<'a, L> {
                 };
                 progress.next_value(ValuesRow::new(quantifying, window))
             }
-            _ => unreachable(),
+            _ => unreachable!(),
         }
     }
 

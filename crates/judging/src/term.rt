@@ -93,7 +93,7 @@ impl Question<'_> {
                 let (y, next) = self.term(mid);
                 (self.combine(at, operation, x, y), next)
             }
-            _ => unreachable(),
+            _ => unreachable!(),
         }
     }
 }

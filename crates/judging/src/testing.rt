@@ -51,7 +51,7 @@ impl Question<'_> {
                 let (y, next) = self.term(mid);
                 (compare(relation, x, y).into(), next)
             }
-            _ => unreachable(),
+            _ => unreachable!(),
         }
     }
 }

@@ -1,5 +1,6 @@
 -- The laws of every log.
-use Rattle.std.specs.Prelude.{◌≡◌, ℕ, ◌+◌, ◌<◌, ◌≤◌, Bool, true, ◌&&◌, List, [], ◌∷◌, length}
+use Rattle.std.specs.Prelude.{◌≡◌, ℕ, ◌+◌, ◌<◌, ◌≤◌, Bool, true, List, length}
+use Rattle.std.specs.List.{list_all}
 use Rattle.logs.specs.declared.event.Event.{Event}
 use Rattle.logs.specs.Events.{in_bounds, event_at}
 
@@ -15,8 +16,7 @@ abbrev pub NeverFalls : List Event → Type 0
 NeverFalls es = (k : ℕ) → k + 1 < length es → time_at es k ≤ time_at es (k + 1)
 
 abbrev pub all_in_bounds : List Event → Bool
-all_in_bounds [] = true
-all_in_bounds (e ∷ es) = in_bounds e && all_in_bounds es
+all_in_bounds es = list_all in_bounds es
 
 -- the laws of a log's list of events and its limit
 pub record Lawful (es : List Event) (limit : ℕ) : Type 0 where

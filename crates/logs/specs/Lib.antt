@@ -5,3 +5,4 @@ pub mod Taken
 pub mod Checked
 pub mod ImageLaws
 pub mod Exact
+pub mod ImageSizes

@@ -5,8 +5,9 @@ use Rattle.logs.specs.declared.event.Event.{Event}
 use Rattle.logs.specs.Lawful.{NeverFalls, time_at}
 use Rattle.rules.specs.declared.row.Side.TheVariants.{After, Before, Given}
 use Rattle.meaning.specs.Three.{count}
-use Rattle.meaning.specs.Windows.{upfrom, places, near}
-use Rattle.meaning.specs.Durations.{Contiguous}
+use Rattle.meaning.specs.Windows.{places, near}
+use Rattle.std.specs.List.{range_with_len}
+use Rattle.meaning.specs.Durations.{Together, Contiguous}
 
 -- times never fall from a place to any later one
 pub never_falls : (es : List Event) → NeverFalls es → (i j : ℕ) → i ≤ j → j < length es → time_at es i ≤ time_at es j
@@ -25,7 +26,7 @@ module _ (q : ℕ → Bool) where
     false_behind : (j : ℕ) → r ≤ j → j < b → q j ≡ false
 
   -- the places before the turn are those that pass
-  counted_run : (n a r : ℕ) → Turns a r (a + n) → a + count q (upfrom a n) ≡ r
+  counted_run : (n a r : ℕ) → Turns a r (a + n) → a + count q (range_with_len a n) ≡ r
   counted_run zero a r t = omega arith
   counted_run (suc n) a r t =
       elim (cases_lt a r) [
@@ -88,9 +89,9 @@ module _ (q : ℕ → Bool) where
 lasts : (d : ℕ) → eqb (suc d) 0 ≡ false
 lasts d = grind arith
 
-pub contiguous : Contiguous
-contiguous es n After zero i w l m j = ((λ h. (h, tt)), λ h. h.0)
-contiguous es n After (suc d) i w l m j =
+together : Together
+together es n After zero i w l m j = ((λ h. (h, tt)), λ h. h.0)
+together es n After (suc d) i w l m j =
     let q : ℕ → Bool = λ j. near (suc d) (time_at es i) (time_at es j) in
     let t = turned q (i + 1) w.1 (omega arith) (λ k j a b c e. le-ltb _ _ (omega (arith, never_falls es n k j b (omega arith), ltb-false _ _ e))) in
     rw (lasts d) (
@@ -103,8 +104,8 @@ contiguous es n After (suc d) i w l m j =
         ],
       ),
     )
-contiguous es n Before zero i w l m j = ((λ h. (h, tt)), λ h. h.0)
-contiguous es n Before (suc d) i w l m j =
+together es n Before zero i w l m j = ((λ h. (h, tt)), λ h. h.0)
+together es n Before (suc d) i w l m j =
     let q : ℕ → Bool = λ j. not (near (suc d) (time_at es j) (time_at es i)) in
     let t = turned q w.0 i l.0 (λ k j a b c e. not_from_true _ (lt-ltb _ _ (omega (arith, never_falls es n k j b (omega arith), ltb-true _ _ (not-false _ e))))) in
     rw (lasts d) (
@@ -117,4 +118,7 @@ contiguous es n Before (suc d) i w l m j =
         h.0.1,
       ),
     )
-contiguous es n Given d i w l m j = ((λ h. (h, tt)), λ h. h.0)
+together es n Given d i w l m j = ((λ h. (h, tt)), λ h. h.0)
+
+pub contiguous : Contiguous
+contiguous = record { together = together }

@@ -3,7 +3,8 @@ use Rattle.std.proofs.Common.{◌≡◌, ℕ, zero, suc, ◌+◌, ◌-◌, ◌<�
 use Rattle.meaning.specs.declared.verdict.Verdict.{Verdict}
 use Rattle.meaning.specs.declared.verdict.Verdict.TheVariants.{Holds, Fails}
 use Rattle.meaning.specs.Three.{not3, and3, all3}
-use Rattle.meaning.specs.Windows.{upfrom, places}
+use Rattle.meaning.specs.Windows.{places}
+use Rattle.std.specs.List.{range_with_len}
 
 -- the lowest place comes first
 pub places_next : (i to : ℕ) → i < to → places i to ≡ i ∷ places (i + 1) to
@@ -32,11 +33,11 @@ apart h k = cc
 
 -- An answer at each of n places from i on.
 module _ (f : ℕ → Verdict) where
-  run_holds : (i n : ℕ) → all3 (upfrom i n) f ≡ Holds → (j : ℕ) → i ≤ j → j < i + n → f j ≡ Holds
+  run_holds : (i n : ℕ) → all3 (range_with_len i n) f ≡ Holds → (j : ℕ) → i ≤ j → j < i + n → f j ≡ Holds
   run_holds i zero e j l m = absurd (omega arith)
-  run_holds i (suc n) e j l m = grind (arith, and_holds (f i) (all3 (upfrom (i + 1) n) f), run_holds (i + 1) n)
+  run_holds i (suc n) e j l m = grind (arith, and_holds (f i) (all3 (range_with_len (i + 1) n) f), run_holds (i + 1) n)
 
-  holds_run : (i n : ℕ) → ((j : ℕ) → i ≤ j → j < i + n → f j ≡ Holds) → all3 (upfrom i n) f ≡ Holds
+  holds_run : (i n : ℕ) → ((j : ℕ) → i ≤ j → j < i + n → f j ≡ Holds) → all3 (range_with_len i n) f ≡ Holds
   holds_run i zero h = refl
   holds_run i (suc n) h = grind (arith, holds_run (i + 1) n)
 
@@ -44,13 +45,13 @@ module _ (f : ℕ → Verdict) where
   abbrev pub FailsIn : ℕ → ℕ → Type 0
   FailsIn i k = (j : ℕ) × (i ≤ j) × (j < k) × (f j ≡ Fails)
 
-  run_fails : (i n : ℕ) → all3 (upfrom i n) f ≡ Fails → FailsIn i (i + n)
+  run_fails : (i n : ℕ) → all3 (range_with_len i n) f ≡ Fails → FailsIn i (i + n)
   run_fails i zero e = absurd (apart refl e)
-  run_fails i (suc n) e = grind (arith, and_fails (f i) (all3 (upfrom (i + 1) n) f) e, run_fails (i + 1) n)
+  run_fails i (suc n) e = grind (arith, and_fails (f i) (all3 (range_with_len (i + 1) n) f) e, run_fails (i + 1) n)
 
-  fails_run : (i n j : ℕ) → i ≤ j → j < i + n → f j ≡ Fails → all3 (upfrom i n) f ≡ Fails
+  fails_run : (i n j : ℕ) → i ≤ j → j < i + n → f j ≡ Fails → all3 (range_with_len i n) f ≡ Fails
   fails_run i zero j l m e = absurd (omega arith)
-  fails_run i (suc n) j l m e = grind (arith, fails_and (f i) (all3 (upfrom (i + 1) n) f), fails_run (i + 1) n j)
+  fails_run i (suc n) j l m e = grind (arith, fails_and (f i) (all3 (range_with_len (i + 1) n) f), fails_run (i + 1) n j)
 
   -- all hold over a window exactly if each does
   pub all_holds : (from to : ℕ) → all3 (places from to) f ≡ Holds → (j : ℕ) → from ≤ j → j < to → f j ≡ Holds
@@ -75,7 +76,7 @@ and_assoc u v w = grind arith
 pub and_nothing : (v : Verdict) → and3 v Holds ≡ v
 and_nothing v = grind arith
 
-run_push : (f : ℕ → Verdict) (i n : ℕ) → all3 (upfrom i (suc n)) f ≡ and3 (all3 (upfrom i n) f) (f (i + n))
+run_push : (f : ℕ → Verdict) (i n : ℕ) → all3 (range_with_len i (suc n)) f ≡ and3 (all3 (range_with_len i n) f) (f (i + n))
 run_push f i zero = grind (arith, and_nothing)
 run_push f i (suc n) = grind (arith, run_push f (i + 1) n, and_assoc)
 

@@ -4,16 +4,12 @@ use Rattle.rules.specs.declared.row.Pick.{Pick}
 use Rattle.rules.specs.declared.row.Pick.TheVariants.{First, Last, Each}
 use Rattle.meaning.specs.declared.verdict.Origin.{Origin}
 use Rattle.meaning.specs.declared.verdict.Verdict.{Verdict}
-use Rattle.meaning.specs.declared.verdict.Verdict.TheVariants.{Holds, Fails, Open}
+use Rattle.meaning.specs.declared.verdict.Verdict.TheVariants.{Holds, Fails}
 use Rattle.meaning.specs.Three.{not3, implies3, all3, settle}
 use Rattle.meaning.specs.Windows.{Window, In, places, within}
 use Rattle.meaning.specs.Verdicts.{delimits, scoped}
-use Rattle.meaning.specs.Wording.{Possible, Certain, Wording}
+use Rattle.meaning.specs.Wording.{Possible, Certain, ScopeWording, Wording}
 use Rattle.meaning.proofs.Places.{and_holds, and_fails, fails_and, not_fails, not_holds, apart, all_holds, holds_all, all_fails, fails_all}
-
--- an open answer does not fail
-never : {o : Origin} → Open o ≡ Fails → ⊥
-never e = cc
 
 -- What an implication says, read backwards.
 
@@ -112,5 +108,8 @@ scope_wording o w f p =
       ),
     )
 
+scopes : ScopeWording
+scopes es η w r s o a d t p = scope_wording o w _ _
+
 pub wording : Wording
-wording es η w r s o a d t p = scope_wording o w _ _
+wording = record { scopes = scopes }

@@ -21,7 +21,10 @@ Kept Before (suc d) t u = t < u + suc d
 Kept Given d t u = Unit {0}
 
 -- Since times never fall, the events that a duration keeps stand together: a window has exactly them.
-abbrev pub Contiguous : Type 0
-Contiguous =
+abbrev pub Together : Type 0
+Together =
     (es : List Event) → NeverFalls es → (s : Side) (d i : ℕ) (w : Window) → In w i → w.1 ≤ length es → (j : ℕ) →
     In (window s (time_at es) d i w) j ↔ (In (side s i w) j × Kept s d (time_at es i) (time_at es j))
+
+pub record Contiguous : Type 0 where
+  pub together : Together

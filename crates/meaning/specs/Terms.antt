@@ -18,7 +18,8 @@ use Rattle.meaning.specs.declared.verdict.Variable.{Variable}
 use Rattle.meaning.specs.declared.verdict.Variable.TheVariants as var
 use Rattle.meaning.specs.declared.verdict.Verdict.{Verdict}
 use Rattle.meaning.specs.declared.verdict.Verdict.TheVariants.{Holds, Fails, Open}
-use Rattle.meaning.specs.Three.{not3, and3, or3, filter}
+use Rattle.meaning.specs.Three.{not3, and3, or3}
+use Rattle.std.specs.List.{filter}
 
 infixl 65 ◌⊕◌
 -- the number that each cause has in a report

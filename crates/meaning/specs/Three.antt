@@ -44,14 +44,10 @@ possible? Holds = true
 possible? Fails = false
 possible? (Open o) = true
 
--- how many of a list pass, and those that do
+-- how many of a list pass
 abbrev pub count : {A : Type 0} → (A → Bool) → List A → ℕ
 count p [] = 0
 count p (x ∷ xs) = cond (p x) (suc (count p xs)) (count p xs)
-
-abbrev pub filter : {A : Type 0} → (A → Bool) → List A → List A
-filter p [] = []
-filter p (x ∷ xs) = cond (p x) (x ∷ filter p xs) (filter p xs)
 
 -- stands where no answer is open
 abbrev pub nowhere : Origin

@@ -15,7 +15,8 @@ use Rattle.meaning.specs.declared.verdict.Origin.{Origin}
 use Rattle.meaning.specs.declared.verdict.Variable.TheVariants as var
 use Rattle.meaning.specs.declared.verdict.Verdict.{Verdict}
 use Rattle.meaning.specs.declared.verdict.Verdict.TheVariants.{Holds, Fails, Open}
-use Rattle.meaning.specs.Three.{not3, and3, or3, implies3, all3, any3, at_least3, settle, possible?, filter, first_open}
+use Rattle.meaning.specs.Three.{not3, and3, or3, implies3, all3, any3, at_least3, settle, possible?, first_open}
+use Rattle.std.specs.List.{filter}
 use Rattle.meaning.specs.Terms.{Variables, ◌⊕◌, bound, event_in, coded, asked}
 use Rattle.meaning.specs.Windows.{Window, places, within, window}
 

@@ -1,5 +1,6 @@
 -- Windows: pairs of places, the second outside.
-use Rattle.std.specs.Prelude.{ℕ, zero, suc, ◌+◌, ◌-◌, ◌<◌, ◌≤◌, Bool, cond, not, List, [], ◌∷◌, ◌==◌, nat_lt}
+use Rattle.std.specs.Prelude.{ℕ, ◌+◌, ◌-◌, ◌<◌, ◌≤◌, Bool, cond, not, List, ◌==◌, nat_lt}
+use Rattle.std.specs.List.{range_with_len}
 use Rattle.rules.specs.declared.row.Side.{Side}
 use Rattle.rules.specs.declared.row.Side.TheVariants.{After, Before, Given}
 use Rattle.meaning.specs.Three.{count}
@@ -11,13 +12,9 @@ Window = ℕ × ℕ
 abbrev pub In : Window → ℕ → Type 0
 In w i = (w.0 ≤ i) × (i < w.1)
 
--- n places from i on
-abbrev pub upfrom : ℕ → ℕ → List ℕ
-upfrom i zero = []
-upfrom i (suc n) = i ∷ upfrom (i + 1) n
-
+-- the places from one up to another
 abbrev pub places : ℕ → ℕ → List ℕ
-places from to = upfrom from (to - from)
+places from to = range_with_len from (to - from)
 
 abbrev pub within : Window → List ℕ
 within w = places w.0 w.1

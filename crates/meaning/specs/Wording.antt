@@ -36,10 +36,13 @@ abbrev pub Certain : Pick → Window → (ℕ → Verdict) → ℕ → Type 0
 Certain o w f i = Possible o w f i × (f i ≡ Holds) × Only o w f i
 
 -- A scope holds exactly if its property holds at each possible delimiter, and fails exactly if it fails at a certain one.
-abbrev pub Wording : Type 0
-Wording =
+abbrev pub ScopeWording : Type 0
+ScopeWording =
     (es : List Event) (η : Variables) (w : Window) (r : ℕ) (s : Side) (o : Pick) (a d : ℕ) (t : Test) (p : Property) →
     let f : ℕ → Verdict = asked es η (r + 1) a t in
     let P : ℕ → Verdict = λ i. judged es (η ⊕ var.Event (event_at es i)) (window s (time_at es) d i w) (r + 1 + length (test_rows t)) p in
     let v : Verdict = judged es η w r (scope s o a d t p) in
     ((v ≡ Holds) ↔ ((i : ℕ) → Possible o w f i → P i ≡ Holds)) × ((v ≡ Fails) ↔ ((i : ℕ) × Certain o w f i × (P i ≡ Fails)))
+
+pub record Wording : Type 0 where
+  pub scopes : ScopeWording

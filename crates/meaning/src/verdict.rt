@@ -5,7 +5,7 @@ use logs::event::{Event, Value};
 // a step leaves the range of signed 32-bit numbers; a divisor is zero.
 #[derive(Clone, Copy, Debug, PartialEq, Eq)]
 pub enum Cause {
-    Missing,
+    Missing = 1,
     Several,
     Unread,
     OutOfRange,

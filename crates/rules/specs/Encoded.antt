@@ -1,5 +1,6 @@
 -- The head and the number of each row, and the rows whose fields are within their bounds.
-use Rattle.std.specs.Prelude.{◌≡◌, ℕ, Bool, true, ◌&&◌, List, [], ◌∷◌, ℤ, pos, nat_le}
+use Rattle.std.specs.Prelude.{◌≡◌, ℕ, Bool, true, ◌&&◌, List, ℤ, pos, nat_le}
+use Rattle.std.specs.List.{list_all}
 use Rattle.rules.specs.declared.row.Connective.{Connective}
 use Rattle.rules.specs.declared.row.Connective.TheVariants as connective
 use Rattle.rules.specs.declared.row.Junction.{Junction}
@@ -95,8 +96,7 @@ allowed (Number a) = true
 allowed (Reckon o) = true
 
 abbrev pub all_allowed : List Row → Bool
-all_allowed [] = true
-all_allowed (r ∷ rs) = allowed r && all_allowed rs
+all_allowed rs = list_all allowed rs
 
 -- a head and a number stand for a row exactly if they are its own, and its fields are within their bounds
 pub record Stands (w : RawRow) (r : Row) : Type 0 where

@@ -1,5 +1,6 @@
 -- Rules that name only variables known where they name them, and in which few enough rows bind within one another.
-use Rattle.std.specs.Prelude.{Bool, true, ◌&&◌, List, [], ◌∷◌}
+use Rattle.std.specs.Prelude.{Bool, true, ◌&&◌, List, []}
+use Rattle.std.specs.List.{list_all}
 use Rattle.rules.specs.declared.known.Sort.TheVariants as sort
 use Rattle.rules.specs.Trees.{Term, constant, time_of, value_of, number_of, reckon, Test, always, not_t, join, compare, Property, not_p, connect, occurrence, absence, scope, quantify}
 use Rattle.rules.specs.Wanted.{Sorts, known_as, room_in, ◌⊕◌}
@@ -26,5 +27,4 @@ scoped η (scope s o a d t p) = room_in η && (scoped_test (η ⊕ sort.Event) t
 scoped η (quantify q a b p) = (known_as sort.Event η a && room_in η) && scoped (η ⊕ sort.Number) p
 
 abbrev pub all_scoped : List Property → Bool
-all_scoped [] = true
-all_scoped (p ∷ ps) = scoped [] p && all_scoped ps
+all_scoped ps = list_all (scoped []) ps

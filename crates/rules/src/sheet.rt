@@ -27,7 +27,7 @@ pub enum InspectRefusal {
 // Why a rule has no reach.
 #[derive(Clone, Copy, Debug, PartialEq, Eq)]
 pub enum ReachRefusal {
-    NoSuchRule,
+    NoSuchRule = 7,
 }
 
 mod methods;

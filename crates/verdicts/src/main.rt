@@ -21,8 +21,7 @@ fn read_input(rt: &HostRuntime) -> io::Result<Vec<u8>> {
 
 // A line for each rule.
 fn print_verdicts(rt: &HostRuntime, verdicts: &[Verdict]) -> io::Result<()> {
-    for (rule, verdict) in verdicts.iter().enumerate() {
-        let verdict = *verdict;
+    for (rule, &verdict) in verdicts.iter().enumerate() {
         rt.println(Line { rule, verdict })?;
     }
     Ok(())

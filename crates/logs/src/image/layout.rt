@@ -1,10 +1,9 @@
 // The events in the bytes of an image.
-ghost use Rattle.std.specs.Prelude.{◌≡◌, ◌+◌, ◌*◌, ◌<◌, ◌≤◌, true, false, length, take, drop, OnOk, IfOk, IfErr};
+ghost use Rattle.std.specs.Prelude.{◌≡◌, ◌+◌, ◌*◌, ◌<◌, ◌≤◌, length, take, drop};
 ghost use Rattle.logs.specs.Events.{slot_count};
-ghost use Rattle.logs.specs.Image.{slot_width, body_width, event_width, event_count, wrong_sizes, sized, body_place, slot_place, slot_at, slots_at, slot_laid, body_laid, time_held, held_at, good_event, lowest_bad};
+ghost use Rattle.logs.specs.Image.{slot_width, body_width, event_width, body_place, slot_place, slot_at, slots_at, slot_laid, body_laid, time_held, held_at, good_event, lowest_bad};
 ghost use Rattle.logs.specs.Checked.{refused_by};
 ghost use Rattle.logs.specs.Taken.{image_taken};
-ghost use Rattle.logs.specs.declared.image.ImageRefusal.TheVariants.{Broken};
 
 use crate::event::{Event, SLOTS, Value};
 use crate::image::ImageRefusal;
@@ -95,13 +94,14 @@ pub(crate) struct Image<'a> {
     ghost whole: { length bytes.now ≡ 4 + event_width * count },
 }
 
-impl<'a> Image<'a> {
-    fn new(bytes: &'a [u8]) -> Result<Image<'a>, ImageRefusal>
-        ensures bytes { IfOk result (λ image. image.bytes.now ≡ bytes.now) }
-        ensures count { IfOk result (λ image. image.count ≡ event_count bytes.now) }
-        ensures sized { OnOk result (sized bytes.now ≡ true) }
-        ensures refused { IfErr result (λ r. (r ≡ Broken wrong_sizes) × (sized bytes.now ≡ false)) }
-    {
+impl<'a> TryFrom<&'a [u8]> for Image<'a> {
+    type Error = ImageRefusal;
+
+    ghost use Rattle.logs.specs.ImageSizes.{SizesTell};
+
+    ghost try_from_gives = { λ bytes image. SizesTell bytes.now image };
+
+    fn try_from(bytes: &'a [u8]) -> Result<Image<'a>, ImageRefusal> {
         if bytes.len() >= 4 && u16::from_le_bytes(bytes_at(bytes, 2)) as usize == BODY_WIDTH {
             let count = u16::from_le_bytes(bytes_at(bytes, 0));
             if bytes.len() == 4 + EVENT_WIDTH * count as usize {
@@ -110,7 +110,9 @@ impl<'a> Image<'a> {
         }
         Err(ImageRefusal::Broken { event: 65535 })
     }
+}
 
+impl<'a> Image<'a> {
     // The bytes of an event.
     pub(crate) fn at(&self, i: u16) -> EventBytes<'a>
         requires { i < self.now.count }
@@ -187,7 +189,7 @@ impl<'a> EventBytes<'a> {
 pub(crate) fn taken(bytes: &[u8]) -> Result<u16, ImageRefusal>
     ensures { result ≡ image_taken bytes.now }
 {
-    let image = Image::new(bytes)?;
+    let image = Image::try_from(bytes)?;
     image.check()?;
     Ok(image.count)
 }

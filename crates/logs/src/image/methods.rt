@@ -20,6 +20,7 @@ impl From<ImageRefusal> for u8 {
 
 impl<'a> ImageLog<'a> {
     // Checks the image, and keeps what was found.
+    #[tactic(auto, using(crate::proofs::Holding::exact_stands))]
     pub fn new(bytes: &'a [u8]) -> ImageLog<'a>
         ensures image { image_bytes result ≡ bytes.now }
         ensures meaning { image_events (image_bytes result) ≡ image_events bytes.now }

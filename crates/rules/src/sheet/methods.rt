@@ -26,9 +26,7 @@ impl From<ReachRefusal> for u8 {
     ghost from_gives = { λ refusal number. number ≡ reach_refusal_number refusal };
 
     fn from(refusal: ReachRefusal) -> u8 {
-        match refusal {
-            ReachRefusal::NoSuchRule => 7,
-        }
+        refusal as u8
     }
 }
 

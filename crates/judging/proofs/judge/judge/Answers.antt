@@ -1,21 +1,7 @@
 use Rattle.std.proofs.Common.{◌≡◌, ◌≤◌, length, Some, Ok, arith}
 use Rattle.rules.specs.Sheets.{held, start_in, reach_in}
-use Rattle.meaning.proofs.Wording.{wording}
-use Rattle.meaning.proofs.Durations.{contiguous}
 use Rattle.judging.proofs.Rules.{stands, answers}
 use Rattle.judging.proofs.judge.judge.Goals as goal
-
-pub returns-in_err-at-clause-wording : goal.returns-in_err-at-clause-wording
-returns-in_err-at-clause-wording g c = wording
-
-pub returns-in_err-at-clause-contiguous : goal.returns-in_err-at-clause-contiguous
-returns-in_err-at-clause-contiguous g c = contiguous
-
-pub returns-then-work-reach-clause-wording : goal.returns-then-work-reach-clause-wording
-returns-then-work-reach-clause-wording g c = wording
-
-pub returns-then-work-reach-clause-contiguous : goal.returns-then-work-reach-clause-contiguous
-returns-then-work-reach-clause-contiguous g c = contiguous
 
 pub run-requires : goal.run-requires
 run-requires g c =
@@ -32,9 +18,3 @@ returns-clause-answer g c =
     let reach : reach_in (held s) c.args.rule ≡ Ok c.in_ok-reach.reach = cc c.in_ok-reach.was in
     let enough : c.in_ok-reach.reach ≤ length c.args.work.now = omega arith in
     answers s c.args.rule _ _ _ at reach enough _ _ (rw (c.new.ensures.log, c.new.ensures.rows, c.rows.ensures) at c.run.ensures)
-
-pub returns-clause-wording : goal.returns-clause-wording
-returns-clause-wording g c = wording
-
-pub returns-clause-contiguous : goal.returns-clause-contiguous
-returns-clause-contiguous g c = contiguous

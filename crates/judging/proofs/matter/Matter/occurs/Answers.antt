@@ -1,4 +1,4 @@
-use Rattle.std.proofs.Common.{◌≡◌, ◌+◌, ◌-◌, sym, refl, ap, ◌∙◌, subst, arith}
+use Rattle.std.proofs.Common.{◌≡◌, ◌+◌, ◌-◌, sym, ap, ◌∙◌, subst, arith}
 use Rattle.rules.specs.Forest.{test_at}
 use Rattle.meaning.specs.declared.verdict.Variable.TheVariants.{Event}
 use Rattle.meaning.specs.Terms.{asked}
@@ -7,14 +7,8 @@ use Rattle.meaning.proofs.Places.{places_next}
 use Rattle.lists.specs.ShortLists.{items}
 use Rattle.judging.specs.Tallies.{noted, ending}
 use Rattle.judging.proofs.Binding.{asked_is, unbound}
-use Rattle.judging.proofs.Counting.{ending_start, ending_next, ending_certain, Sound, noted_sound, places_many}
+use Rattle.judging.proofs.Counting.{ending_next, ending_certain, Sound, noted_sound, places_many}
 use Rattle.judging.proofs.matter.Matter.occurs.Goals as goal
-
-pub loop-place-init : goal.loop-place-init
-loop-place-init g c =
-    let f = asked (g.L.ReadingLog.events c.args.self.now.log.now) (items c.args.known.now) c.args.at c.args.name (test_at c.args.self.now.rows.now c.args.at) in
-    let fresh = c.default-tally.ensures in
-    (refl, ending_start c.args.count f c.default-tally.result _ fresh, record { most = omega arith; blamed = λ e. fresh.1.0 })
 
 pub loop-place-preserved : goal.loop-place-preserved
 loop-place-preserved g c =

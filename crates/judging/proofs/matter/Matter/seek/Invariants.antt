@@ -6,7 +6,7 @@ use Rattle.judging.proofs.matter.Matter.seek.Given as goal
 abbrev pub invariant-loop-place : goal.invariant-loop-place
 invariant-loop-place g l =
     (items l.known ≡ items l.initial.known)
-    × Trying (g.L.ReadingLog.events l.self.log.now) l.self.rows.now l.scoping l.so_far (items l.initial.known) l.initial.left l.left
+    × Trying (g.L.ReadingLog.events l.self.log.now) l.self.rows.now l.row.scoping l.row.verdict (items l.initial.known) l.initial.left l.left
 
 abbrev pub decreases-loop-place : goal.decreases-loop-place
 decreases-loop-place g l = l.left.1 - l.left.0

@@ -1,10 +1,6 @@
 use Rattle.std.proofs.Common.{arith}
-use Rattle.logs.proofs.Holding.{exact_stands}
 use Rattle.logs.proofs.Taken.{length-image_events-le}
 use Rattle.logs.proofs.image.ImageLog.new.Goals as goal
 
 pub invariant_of-result-clause-few : goal.invariant_of-result-clause-few
 invariant_of-result-clause-few c = omega (arith, length-image_events-le c.args.bytes.now, c.type_inv.bytes 0, c.type_inv.bytes 1)
-
-pub returns-clause-exact : goal.returns-clause-exact
-returns-clause-exact c = exact_stands
