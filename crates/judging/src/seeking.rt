@@ -1,5 +1,4 @@
 // The possible delimiters of a scope, found one by one.
-ghost use Rattle.std.specs.Prelude.{◌≡◌};
 ghost use Rattle.lists.specs.ShortLists.{items};
 ghost use Rattle.judging.specs.Asking.{CanAsk};
 ghost use Rattle.judging.specs.Seeking.{NextPlace, Sought};

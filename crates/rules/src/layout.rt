@@ -1,5 +1,5 @@
 // The rows in the bytes of a sheet.
-ghost use Rattle.std.specs.Prelude.{◌≡◌, ℕ, ◌+◌, ◌<◌, ◌≤◌, length, slice_index};
+ghost use Rattle.std.specs.Prelude.{◌≡◌, ◌+◌, ◌<◌, ◌≤◌, length};
 ghost use Rattle.lists.specs.ShortLists.{items};
 ghost use Rattle.rules.specs.Layout.{Sizes, rule_count, row_count, raw_at, rows_of};
 
