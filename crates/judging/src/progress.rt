@@ -87,6 +87,7 @@ impl<'a> Progress<'a> {
         requires variable { length (items self.old.known) < deepest }
         requires row { HasRoom self.old }
         ensures onward { (es : List Ev) (rs : List SheetRow) → ReadyForValues es rs self.old row → OnwardValued es rs self.old row self.new result }
+        ensures space { room self.new.stack ≡ room self.old.stack }
     {
         let depth = self.known.len();
         let event = known_event(self.known.as_slice(), row.quantifying.variable);
@@ -113,6 +114,7 @@ impl<'a> Progress<'a> {
     pub(crate) fn tell_left(&mut self, row: LeftRow, v: Verdict) -> Turn
         requires row { HasRoom self.old }
         ensures onward { (es : List Ev) (rs : List SheetRow) → Waiting es rs self.old (JudgingRow.Left row ∷ held self.old.stack) → OnwardTold es rs self.old (JudgingRow.Left row) v self.new result }
+        ensures space { room self.new.stack ≡ room self.old.stack }
     {
         self.known.truncate(row.depth);
         if let Some(verdict) = decide(row.connective, v) {
@@ -133,6 +135,7 @@ impl<'a> Progress<'a> {
         requires variable { length (take row.depth (items self.old.known)) < deepest }
         requires row { HasRoom self.old }
         ensures onward { (es : List Ev) (rs : List SheetRow) → Waiting es rs self.old (JudgingRow.Values row ∷ held self.old.stack) → OnwardTold es rs self.old (JudgingRow.Values row) v self.new result }
+        ensures space { room self.new.stack ≡ room self.old.stack }
     {
         self.known.truncate(row.depth);
         let verdict = gather(row.quantifying.quantifier, row.verdict, v);

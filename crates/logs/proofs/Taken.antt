@@ -47,3 +47,5 @@ module _ (bs : List ℕ) where
       go : (o : Option ℕ) → length (unless_broken o (events_in bs)) ≤ event_count bs
       go None = omega (arith, length_first bs (event_count bs) (event_count bs))
       go (Some event) = omega arith
+
+pub ruleset taken_length = (length-image_events)

@@ -11,3 +11,12 @@ impl From<Cause> for u8 {
         cause as u8
     }
 }
+
+impl Cause {
+    // The same number as a method: who calls it need not list this crate.
+    pub fn number(self) -> u8
+        ensures { result ≡ cause_number self }
+    {
+        self.into()
+    }
+}

@@ -47,6 +47,13 @@ impl From<InputRefusal> for u8 {
 }
 
 impl InputRefusal {
+    // The same number as a method: who calls it need not list this crate.
+    pub fn number(self) -> u8
+        ensures { result ≡ input_refusal_number self }
+    {
+        self.into()
+    }
+
     // The row or the event that is refused.
     pub fn carried(self) -> Option<usize>
         ensures { result ≡ input_carried self }

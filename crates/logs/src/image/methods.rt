@@ -18,6 +18,15 @@ impl From<ImageRefusal> for u8 {
     }
 }
 
+impl ImageRefusal {
+    // The same number as a method: who calls it need not list this crate.
+    pub fn number(self) -> u8
+        ensures { result ≡ image_refusal_number self }
+    {
+        self.into()
+    }
+}
+
 impl<'a> ImageLog<'a> {
     // Checks the image, and keeps what was found.
     #[tactic(auto, using(crate::proofs::Holding::exact_stands))]

@@ -16,6 +16,7 @@ impl<'a> ReadingLog for ImageLog<'a> {
 
     ghost laws = { λ log. image_lawful (image_bytes log) log.few };
 
+    #[tactic(auto, using(crate::proofs::Taken::taken_length))]
     fn len(&self) -> u16 {
         self.taken.unwrap_or(0)
     }

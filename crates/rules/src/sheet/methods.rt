@@ -22,11 +22,29 @@ impl From<InspectRefusal> for u8 {
     }
 }
 
+impl InspectRefusal {
+    // The same number as a method: who calls it need not list this crate.
+    pub fn number(self) -> u8
+        ensures { result ≡ inspect_refusal_number self }
+    {
+        self.into()
+    }
+}
+
 impl From<ReachRefusal> for u8 {
     ghost from_gives = { λ refusal number. number ≡ reach_refusal_number refusal };
 
     fn from(refusal: ReachRefusal) -> u8 {
         refusal as u8
+    }
+}
+
+impl ReachRefusal {
+    // The same number as a method: who calls it need not list this crate.
+    pub fn number(self) -> u8
+        ensures { result ≡ reach_refusal_number self }
+    {
+        u8::from(self)
     }
 }
 
